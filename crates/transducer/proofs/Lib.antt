@@ -1,3 +1,11 @@
 -- Laws of the definitions, for the crates above.
 pub mod Bools
 pub mod Facts
+pub mod StateSetLaws
+pub mod PathLaws
+pub mod FunctionalLaws
+pub mod WalkLaws
+pub mod MoveLaws
+pub mod AlikeLaws
+pub mod SizeLaws
+pub mod ReversalLaws

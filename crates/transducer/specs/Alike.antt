@@ -2,9 +2,8 @@
 use mathlib.Core.Path.{_≡_}
 use mathlib.Core.Bool.{Bool, true, false, _&&_}
 use mathlib.Core.List.{List, [], _∷_}
-use Prim.Native.Nat.{ℕ, zero, suc, _+_, _<_}
+use Prim.Native.Nat.{ℕ, zero, suc, _+_}
 use lib.Dec.{eqb}
-use lib.ListN.{take}
 use Rattle.transducer.specs.StateSet.{pick, has}
 use Rattle.transducer.specs.Transition.{at}
 use Rattle.transducer.specs.declared.OutputCode.{OutputCode}
@@ -38,4 +37,4 @@ pub record Alike (t t′ : Transducer) : Type 0 where
   pub states : t .states ≡ t′ .states
   pub starts : (q : ℕ) → has (t .starts) q ≡ has (t′ .starts) q
   pub finals : (q : ℕ) → has (t .finals) q ≡ has (t′ .finals) q
-  pub lines : (v : Transition) → times t v ≡ times t′ v
+  pub transitions : (v : Transition) → times t v ≡ times t′ v

@@ -8,3 +8,4 @@ pub mod Paths
 pub mod Useful
 pub mod Walks
 pub mod Alike
+pub mod Reversal

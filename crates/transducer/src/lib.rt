@@ -6,6 +6,7 @@ ghost use Rattle.transducer.specs.StateSet.{has, withState, noStates};
 ghost use Rattle.transducer.specs.Blank.{clearTransition, blankTransducer};
 
 pub mod limits;
+pub mod reversal;
 pub mod validity;
 
 // A code of the input alphabet, 1 to 250; in a transition 0 means that it reads nothing.
