@@ -1,14 +1,17 @@
 -- Laws of the reversed transducer: its transitions lead the other way, and it keeps the rules. Assumes nothing.
-use mathlib.Core.Path.{_≡_, sym, ap, _∙_, subst}
+use mathlib.Core.Path.{_≡_, refl, sym, ap, _∙_, subst}
+use mathlib.Core.List.{List, [], _∷_, _++_}
 use mathlib.Core.Logic.{_↔_}
 use Prim.Native.Nat.{ℕ, _<_}
 use lib.ListN.{List·getD-map}
 use Rattle.transducer.specs.Transition.{at, outside}
 use Rattle.transducer.specs.Valid.{Used, Clear, Valid}
+use Rattle.transducer.specs.Paths.{Path, here, step}
 use Rattle.transducer.specs.Walks.{Edge}
 use Rattle.transducer.specs.Reversal.{turnedOf, reversedOf}
 use Rattle.transducer.specs.declared.Transition.{Transition}
 use Rattle.transducer.specs.declared.Transducer.{Transducer}
+use Rattle.transducer.proofs.PathLaws.{path-join}
 
 module _ (t : Transducer) where
   -- transition l is turned
@@ -23,6 +26,18 @@ module _ (t : Transducer) where
     λ e. record { used = e .used; source = ap (λ v. v .to) (sym (reversed-at l)) ∙ e .target; target = ap (λ v. v .from) (sym (reversed-at l)) ∙ e .source },
     λ e. record { used = e .used; source = ap (λ v. v .from) (reversed-at l) ∙ e .target; target = ap (λ v. v .to) (reversed-at l) ∙ e .source },
   )
+
+-- where every transition of t leads the other way in t′, so does every path
+turned-path : {t t′ : Transducer} {p q : ℕ} {π : List ℕ} → ((l p q : ℕ) → Edge t l p q → Edge t′ l q p) → Path t p π q → (ρ : List ℕ) × Path t′ q ρ p
+turned-path turn (here e) = ([], here (sym e))
+turned-path turn (step {l = l} a b h) =
+    let r = turned-path turn h in
+    let e = turn l _ _ (record { used = a; source = b; target = refl }) in
+    (r .0 ++ (l ∷ []), path-join (r .1) (step (e .used) (e .source) (here (e .target))))
+
+-- a path leads from p to q exactly where one of the reversed transducer leads from q to p
+pub reversed-path : (t : Transducer) {p q : ℕ} → ((π : List ℕ) × Path (reversedOf t) p π q) ↔ ((ρ : List ℕ) × Path t q ρ p)
+reversed-path t = (λ h. turned-path (λ l p q. reversed-edge t .0) (h .1), λ h. turned-path (λ l p q. reversed-edge t .1) (h .1))
 
 used-turned : {n : ℕ} {v : Transition} → Used n v → Used n (turnedOf v)
 used-turned u =

@@ -1,12 +1,14 @@
 -- Laws of sets of states: what a set holds after a state is added, and that a set is what it holds. Assumes nothing.
 use mathlib.Core.Path.{_≡_, refl, sym, ap, _∙_}
-use mathlib.Core.Bool.{Bool, true, false, _&&_, _||_}
+use mathlib.Core.Bool.{Bool, true, false}
 use mathlib.Core.List.{List}
-use Prim.Native.Nat.{ℕ, _<_, _≤_}
-use native.Mathlib.Decide.{ℕ-discrete, decLt}
+use Prim.Native.Nat.{ℕ, _+_, _<_, _≤_}
+use native.Mathlib.Decide.{decLt}
+use native.Mathlib.Nat.{not-suc-le-zero}
+use borrow.Author.Count.{below-more}
 use native.Mathlib.Omega.{arith}
-use borrow.Author.Tests.{lt-ltb, le-ltb, eq-eqb, ne-eqb, ltb-true}
-use lib.Dec.{ltb, eqb}
+use borrow.Author.Tests.{lt-ltb, le-ltb}
+use lib.Dec.{ltb}
 use lib.ListN.{length, getD, length-set, getD-replicate}
 use lib.Seq.{getD-set-same, getD-set-other, ext-getD}
 use Rattle.transducer.specs.Limits.{mostStates}
@@ -62,3 +64,34 @@ same-set s r l k e =
     ap (λ (m : List Bool). let z : StateSet = record { member = m } in z)
     (ext-getD false (s .member) (r .member) (l ∙ sym k)
     (λ q h. let b : q < mostStates = omega (arith, l) in sym (has-below s q b) ∙ e q ∙ has-below r q b))
+
+-- ---- a set that a loop builds, from a test of each state
+
+-- the states below q are decided, and no other state is in the set
+pub record Built (f : ℕ → Bool) (s : StateSet) (q : ℕ) : Type 0 where
+  pub long : Long s
+  pub decided : (p : ℕ) → p < q → has s p ≡ f p
+  pub open-yet : (p : ℕ) → q ≤ p → has s p ≡ false
+
+module _ {f : ℕ → Bool} where
+  pub built-none : Built f noStates 0
+  built-none = record { long = refl; decided = λ p h. absurd (not-suc-le-zero h); open-yet = λ p h. has-none p }
+
+  -- the test holds of q, which is added
+  pub built-with : {s : StateSet} {q : ℕ} → Built f s q → q < mostStates → f q ≡ true → Built f (withState s q) (q + 1)
+  built-with {s} {q} b h e =
+      record {
+        long = with-long s q (b .long);
+        decided =
+            below-more _ q (λ p k. with-other s q (b .long) h p (λ z. omega arith) ∙ b .decided p k) (with-same s q (b .long) h ∙ sym e);
+        open-yet = λ p k. with-other s q (b .long) h p (λ z. omega arith) ∙ b .open-yet p (omega arith);
+      }
+
+  -- the test does not hold of q, which is passed
+  pub built-skip : {s : StateSet} {q : ℕ} → Built f s q → f q ≡ false → Built f s (q + 1)
+  built-skip {s} {q} b e =
+      record {
+        long = b .long;
+        decided = below-more _ q (b .decided) (b .open-yet q (omega arith) ∙ sym e);
+        open-yet = λ p k. b .open-yet p (omega arith);
+      }

@@ -52,9 +52,9 @@ impl StateSet {
     pub fn contains(self, s: u8) -> bool
         ensures { λ r. ⌜ r ≡ has self s ⌝ }
     {
-        let i = s as usize;
-        if i < limits::STATES {
-            self.member[i]
+        let place = s as usize;
+        if place < limits::STATES {
+            self.member[place]
         } else {
             false
         }

@@ -1,0 +1,2 @@
+-- The one theorem about the starred cases.
+pub mod Starred

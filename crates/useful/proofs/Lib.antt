@@ -1,0 +1,3 @@
+-- Laws about the contract of `useful_states`, for the crates above.
+pub mod Accessible
+pub mod Determined

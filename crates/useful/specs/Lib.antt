@@ -1,0 +1,2 @@
+-- What `useful_states` answers.
+pub mod UsefulStates

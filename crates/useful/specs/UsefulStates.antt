@@ -1,0 +1,53 @@
+-- What `useful_states` answers, and what its parts do.
+use mathlib.Core.Path.{_≡_}
+use mathlib.Core.Bool.{true, false}
+use mathlib.Core.List.{List}
+use mathlib.Core.Logic.{_↔_}
+use Prim.Native.Nat.{ℕ, _<_}
+use lib.ListN.{length, getD}
+use Rattle.transducer.specs.Limits.{mostStates}
+use Rattle.transducer.specs.StateSet.{pick, In, noStates}
+use Rattle.transducer.specs.Valid.{validOf}
+use Rattle.transducer.specs.Paths.{Path}
+use Rattle.transducer.specs.Useful.{UsefulState}
+use Rattle.transducer.specs.Walks.{Edge}
+use Rattle.transducer.specs.declared.StateSet.{StateSet}
+use Rattle.transducer.specs.declared.Transducer.{Transducer}
+use Rattle.useful.specs.declared.Outcome.{Outcome}
+use Rattle.useful.specs.declared.Outcome.the-variants.{Found, Invalid}
+use Rattle.useful.specs.declared.UsefulStates.{UsefulStates}
+
+-- document 01's number of an outcome; 0 where nothing is refused
+abbrev pub numberOf : Outcome → ℕ
+numberOf Found = 0
+numberOf Invalid = 8
+
+-- refusal 8 with the empty set exactly where the value breaks a rule; else a state is in the set exactly when it is useful
+pub record UsefulStatesOf (t : Transducer) (r : UsefulStates) : Type 0 where
+  pub number : numberOf (r .outcome) ≡ pick (validOf t) 0 8
+  pub refused : validOf t ≡ false → r .states ≡ noStates
+  pub members : validOf t ≡ true → (q : ℕ) → In (r .states) q ↔ UsefulState t q
+  pub long : length (r .states .member) ≡ mostStates
+
+-- ---- the parts
+
+-- transition l leads from u to v: the edges of the search
+abbrev pub Leads : Transducer → ℕ → ℕ → ℕ → Type 0
+Leads t u l v = Edge t l u v
+
+-- a path from a start state leads to q
+pub record Accessible (t : Transducer) (q : ℕ) : Type 0 where
+  pub first : ℕ
+  pub front : List ℕ
+  pub starts : In (t .starts) first
+  pub comes : Path t first front q
+
+-- the list gives a number other than 0 exactly to the states that are accessible
+pub record Searched (t : Transducer) (rank : List ℕ) : Type 0 where
+  pub long : length rank ≡ mostStates
+  pub members : (q : ℕ) → (0 < getD rank q 0) ↔ Accessible t q
+
+-- the set has exactly the states to which both lists give a number other than 0
+pub record CommonOf (a b : List ℕ) (r : StateSet) : Type 0 where
+  pub members : (q : ℕ) → In r q ↔ ((0 < getD a q 0) × (0 < getD b q 0))
+  pub long : length (r .member) ≡ mostStates

@@ -1,0 +1,5 @@
+-- The laws of words, by subject; `Stripped` serves this crate's own functions.
+pub mod CommonBeginning
+pub mod Outcomes
+pub mod Exchange
+mod Stripped

@@ -1,0 +1,60 @@
+// The difference of two words (document 01, "The difference of two outputs"): what they have in common at the beginning is stripped,
+// and the rests tell how the two compare and what of the longer one is unmatched. The contracts cite `differenceOf` and `unmatchedOf`
+// of specs/Difference.antt; the laws about them, and `exchange` about words over any alphabet, are in proofs/.
+ghost use mathlib.Core.Path.{_≡_};
+ghost use Rattle.words.specs.Difference.{sharedOf, differenceOf, unmatchedOf};
+
+// How two words compare once their common beginning is stripped.
+pub enum Comparison {
+    // Nothing is left.
+    Level,
+    // The second is used up, the first goes on.
+    FirstAhead,
+    // The first is used up, the second goes on.
+    SecondAhead,
+    // Both go on, with different codes.
+    Clash,
+}
+
+// How x and y compare. They may hold any bytes.
+pub fn difference(x: &[u8], y: &[u8]) -> Comparison
+    ensures { λ r. ⌜ r ≡ differenceOf (now (x .entry)) (now (y .entry)) ⌝ }
+{
+    let n = shared(x, y);
+    if n < x.len() {
+        if n < y.len() {
+            Comparison::Clash
+        } else {
+            Comparison::FirstAhead
+        }
+    } else {
+        if n < y.len() {
+            Comparison::SecondAhead
+        } else {
+            Comparison::Level
+        }
+    }
+}
+
+// The unmatched end of the longer word, as the part of x or y that it is (nothing is copied); the empty part where they are level or clash.
+pub fn unmatched<'a>(x: &'a [u8], y: &'a [u8]) -> &'a [u8]
+    ensures { λ r. ⌜ now r ≡ unmatchedOf (now (x .entry)) (now (y .entry)) ⌝ }
+{
+    let n = shared(x, y);
+    if n < x.len() {
+        if n < y.len() { &x[0..0] } else { &x[n..] }
+    } else {
+        &y[n..]
+    }
+}
+
+// How many codes x and y have in common at the beginning.
+fn shared(x: &[u8], y: &[u8]) -> usize
+    ensures { λ r. ⌜ r ≡ sharedOf (now (x .entry)) (now (y .entry)) ⌝ }
+{
+    let mut i = 0;
+    while i < x.len() && i < y.len() && x[i] == y[i] {
+        i += 1;
+    }
+    i
+}
