@@ -3,3 +3,4 @@ pub mod CommonBeginning
 pub mod Outcomes
 pub mod Exchange
 mod Stripped
+pub mod PutLaws

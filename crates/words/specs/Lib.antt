@@ -1,2 +1,3 @@
 -- What the contracts of `words` cite.
 pub mod Difference
+pub mod Put

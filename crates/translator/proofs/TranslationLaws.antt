@@ -1,0 +1,223 @@
+-- What the translator's contract says of any answer that meets it: on a functional transducer it determines the answer and the buffer, with 65,528
+-- places 7 is never given, and transducers that are alike are answered alike. Assumes nothing.
+use mathlib.Core.Path.{_≡_, refl, sym, ap, _∙_}
+use mathlib.Core.Bool.{Bool, true, false}
+use mathlib.Core.List.{List, [], _++_}
+use mathlib.Core.Logic.{_≢_}
+use Prim.Native.Nat.{ℕ, _≤_, _<_}
+use native.Mathlib.Decide.{ℕ-discrete}
+use native.Mathlib.Omega.{arith}
+use borrow.Author.Tests.{le-leb}
+use lib.Dec.{eqb, leb}
+use lib.ListN.{length, drop, getD}
+use Rattle.transducer.specs.Limits.{mostCode}
+use Rattle.transducer.specs.StateSet.{pick}
+use Rattle.transducer.specs.Transition.{OutputWord}
+use Rattle.transducer.specs.Valid.{validOf}
+use Rattle.transducer.specs.Paths.{Relates, Functional}
+use Rattle.transducer.specs.Alike.{Alike}
+use Rattle.transducer.specs.declared.Transducer.{Transducer}
+use Rattle.transducer.proofs.Bools.{and-both, all-of}
+use Rattle.transducer.proofs.AlikeLaws.{alike-equivalent}
+use Rattle.wordsearch.specs.Limits.{mostWord, mostWritten}
+use Rattle.wordsearch.specs.Nodes.{wordOf}
+use Rattle.translator.specs.Numbers.{numberOf, lengthOf}
+use Rattle.translator.specs.Words.{codeAt, codesOf, refusalOf, bytesOf}
+use Rattle.translator.specs.Translated.{Outcome, Translated}
+use Rattle.translator.specs.declared.Translation.{Translation}
+use Rattle.translator.specs.declared.Translation.the-variants.{Written, Invalid, WordTooLong, NoInputCode, Unread, BufferTooShort}
+use Rattle.translator.proofs.BufferLaws.{length-bytes}
+use Rattle.translator.proofs.RefusalLaws.{refusal-none}
+
+-- ---- an answer is its number and its length
+
+-- the answer with this number and this length
+abbrev answerOf : ℕ → ℕ → Translation
+answerOf n k =
+    pick (eqb n 0) (Written k)
+    (pick (eqb n 7) BufferTooShort (pick (eqb n 8) Invalid (pick (eqb n 9) WordTooLong (pick (eqb n 10) NoInputCode Unread))))
+
+answer-is : (r : Translation) → answerOf (numberOf r) (lengthOf r) ≡ r
+answer-is (Written n) = refl
+answer-is BufferTooShort = refl
+answer-is Invalid = refl
+answer-is WordTooLong = refl
+answer-is NoInputCode = refl
+answer-is Unread = refl
+
+same-answer : (r r′ : Translation) → numberOf r ≡ numberOf r′ → lengthOf r ≡ lengthOf r′ → r ≡ r′
+same-answer r r′ n k = sym (answer-is r) ∙ rw (n, k) (answer-is r′)
+
+-- with a refusal the length is 0
+refused-length : (r : Translation) → numberOf r ≢ 0 → lengthOf r ≡ 0
+refused-length (Written n) h = absurd (h refl)
+refused-length BufferTooShort h = refl
+refused-length Invalid h = refl
+refused-length WordTooLong h = refl
+refused-length NoInputCode h = refl
+refused-length Unread h = refl
+
+-- ---- 7 is never given with 65,528 places
+
+-- the refusals before the search are not 7
+refusal-no-seven : (t : Transducer) (input : List ℕ) → refusalOf t input ≢ 7
+unfolding refusalOf
+refusal-no-seven t input = go (validOf t) (leb (length input) mostWord) (codesOf input)
+  where
+    go : (a b c : Bool) → _≢_ {A = ℕ} (pick a (pick b (pick c 0 10) 9) 8) 7
+    go false b c e = omega arith
+    go true false c e = omega arith
+    go true true false e = omega arith
+    go true true true e = omega arith
+
+module _ {t : Transducer} {input out₀ out : List ℕ} {r : Translation} where
+  pub never-short : mostWritten ≤ length out₀ → Translated t input out₀ out r → numberOf r ≢ 7
+  never-short room h e = go (ℕ-discrete (refusalOf t input) 0)
+    where
+      outcome : Outcome t input out₀ out r → ⊥
+      outcome (Outcome.written a few fits n k o) = omega arith
+      outcome (Outcome.unread never n) = omega arith
+      outcome (Outcome.short a few long n) = omega arith
+
+      go : Dec (refusalOf t input ≡ 0) → ⊥
+      go (yes z) = outcome (h .answered z)
+      go (no z) = refusal-no-seven t input (sym (h .refused z) ∙ e)
+
+-- ---- on a functional transducer the contract determines the answer
+
+-- two answers are the same, and both buffers begin with the same bytes; the places beyond hold what they held
+pub record Same (out₀ out out₀′ out′ : List ℕ) (r r′ : Translation) : Type 0 where
+  pub answer : r ≡ r′
+  pub bytes : List ℕ
+  pub size : lengthOf r ≡ length bytes
+  pub one : out ≡ bytes ++ drop (length bytes) out₀
+  pub other : out′ ≡ bytes ++ drop (length bytes) out₀′
+
+-- a buffer holds each output that the other holds
+abbrev pub Holds : List ℕ → List ℕ → Type 0
+Holds out₀ out₀′ = (n : ℕ) → n ≤ mostWritten → n ≤ length out₀ → n ≤ length out₀′
+
+module _ {t : Transducer} {input out₀ out out₀′ out′ : List ℕ} {r r′ : Translation} where
+  -- two refusals with the same number
+  same-refusal : numberOf r ≢ 0 → numberOf r ≡ numberOf r′ → Translated t input out₀ out r → Translated t input out₀′ out′ r′
+      → Same out₀ out out₀′ out′ r r′
+  same-refusal n e h h′ =
+      let n′ : numberOf r′ ≢ 0 = λ z. n (e ∙ z) in
+      record {
+        answer = same-answer r r′ e (refused-length r n ∙ sym (refused-length r′ n′));
+        bytes = [];
+        size = refused-length r n;
+        one = h .unchanged n;
+        other = h′ .unchanged n′;
+      }
+
+  -- from two buffers that hold the same outputs a functional transducer gives the same answer
+  pub translated-same : Functional t → Holds out₀ out₀′ → Holds out₀′ out₀
+      → Translated t input out₀ out r → Translated t input out₀′ out′ r′
+      → Same out₀ out out₀′ out′ r r′
+  translated-same f to from h h′ = go (ℕ-discrete (refusalOf t input) 0)
+    where
+      outcomes : Outcome t input out₀ out r → Outcome t input out₀′ out′ r′ → Same out₀ out out₀′ out′ r r′
+      outcomes (Outcome.written {y = y} a few fits n k o) (Outcome.written {y = y′} a′ few′ fits′ n′ k′ o′) =
+          let e = f (wordOf input) y′ y a′ a in
+          record {
+            answer = same-answer r r′ (n ∙ sym n′) (k ∙ sym (k′ ∙ ap length e));
+            bytes = bytesOf y;
+            size = k ∙ sym (length-bytes y);
+            one = rw (length-bytes y) o;
+            other = rw (length-bytes y) (rw e at o′);
+          }
+      outcomes (Outcome.written {y = y} a few fits n k o) (Outcome.short {y = y′} a′ few′ long n′) =
+          absurd (omega (arith, to (length y) few fits, ap length (f (wordOf input) y y′ a a′)))
+      outcomes (Outcome.short {y = y} a few long n) (Outcome.written {y = y′} a′ few′ fits n′ k o) =
+          absurd (omega (arith, from (length y′) few′ fits, ap length (f (wordOf input) y y′ a a′)))
+      outcomes (Outcome.short a few long n) (Outcome.short a′ few′ long′ n′) = same-refusal (λ z. omega arith) (n ∙ sym n′) h h′
+      outcomes (Outcome.unread never n) (Outcome.unread never′ n′) = same-refusal (λ z. omega arith) (n ∙ sym n′) h h′
+      outcomes (Outcome.unread never n) (Outcome.written a few fits n′ k o) = absurd (never _ a)
+      outcomes (Outcome.unread never n) (Outcome.short a few long n′) = absurd (never _ a)
+      outcomes (Outcome.written a few fits n k o) (Outcome.unread never n′) = absurd (never _ a)
+      outcomes (Outcome.short a few long n) (Outcome.unread never n′) = absurd (never _ a)
+
+      go : Dec (refusalOf t input ≡ 0) → Same out₀ out out₀′ out′ r r′
+      go (yes z) = outcomes (h .answered z) (h′ .answered z)
+      go (no z) = same-refusal (λ e. z (sym (h .refused z) ∙ e)) (h .refused z ∙ sym (h′ .refused z)) h h′
+
+-- from one buffer the contract determines the answer and the buffer
+pub translated-determined : {t : Transducer} {input out₀ out out′ : List ℕ} {r r′ : Translation} → Functional t
+    → Translated t input out₀ out r → Translated t input out₀ out′ r′ → (r ≡ r′) × (out ≡ out′)
+translated-determined f h h′ =
+    let s = translated-same f (λ n few k. k) (λ n few k. k) h h′ in
+    (s .answer, s .one ∙ sym (s .other))
+
+-- ---- on a functional transducer the output is the one output of the word
+
+-- every byte is an input code
+abbrev pub InRange : List ℕ → Type 0
+InRange input = (i : ℕ) → i < length input → (1 ≤ getD input i 0) × (getD input i 0 ≤ mostCode)
+
+pub codes-in-range : (input : List ℕ) → InRange input → codesOf input ≡ true
+unfolding codesOf
+codes-in-range input h =
+    all-of (length input) (codeAt input)
+    (λ i l. and-both (le-leb 1 (getD input i 0) (h i l .0)) (le-leb (getD input i 0) mostCode (h i l .1)))
+
+pub gives-the-output : {t : Transducer} {input out₀ out : List ℕ} {r : Translation} {y : OutputWord} → Functional t → validOf t ≡ true
+    → length input ≤ mostWord → InRange input → mostWritten ≤ length out₀ → Relates t (wordOf input) y → Translated t input out₀ out r
+    → (r ≡ Written (length y)) × (out ≡ bytesOf y ++ drop (length y) out₀)
+gives-the-output {t} {input} {out₀} {out} {r} {y} f valid short codes room a h =
+    outcome (h .answered (refusal-none t input valid short (codes-in-range input codes)))
+  where
+    outcome : Outcome t input out₀ out r → (r ≡ Written (length y)) × (out ≡ bytesOf y ++ drop (length y) out₀)
+    outcome (Outcome.written {y = z} b few fits n k o) =
+        let e = f (wordOf input) z y b a in
+        (same-answer r (Written (length y)) n (k ∙ ap length e), rw e at o)
+    outcome (Outcome.unread never n) = absurd (never y a)
+    outcome (Outcome.short b few long n) = absurd (omega arith)
+
+-- ---- transducers that are alike
+
+module _ {t t′ : Transducer} (alike : Alike t t′) (valid : validOf t ≡ true) (valid′ : validOf t′ ≡ true) where
+  same-refusals : (input : List ℕ) → refusalOf t input ≡ refusalOf t′ input
+  unfolding refusalOf
+  same-refusals input = rw (valid, valid′)
+
+  -- what meets the contract for one meets it for the other
+  pub alike-translated : {input out₀ out : List ℕ} {r : Translation} → Translated t′ input out₀ out r → Translated t input out₀ out r
+  alike-translated {input} {out₀} {out} {r} h =
+      record {
+        refused = rw (same-refusals input) (h .refused);
+        answered = rw (same-refusals input) (λ z. outcome (h .answered z));
+        unchanged = h .unchanged;
+      }
+    where
+      outcome : Outcome t′ input out₀ out r → Outcome t input out₀ out r
+      outcome (Outcome.written {y = y} a few fits n k o) = Outcome.written (alike-equivalent alike _ y .1 a) few fits n k o
+      outcome (Outcome.unread never n) = Outcome.unread (λ y a. never y (alike-equivalent alike _ y .0 a)) n
+      outcome (Outcome.short {y = y} a few long n) = Outcome.short (alike-equivalent alike _ y .1 a) few long n
+
+  module _ {input out₀ out out₀′ out′ : List ℕ} {r r′ : Translation}
+      (h : Translated t input out₀ out r) (h′ : Translated t′ input out₀′ out′ r′)
+    where
+      -- 8, 9, 10 and 11 agree, functional or not
+      pub alike-refuses : numberOf r ≢ 0 → numberOf r ≢ 7 → numberOf r ≡ numberOf r′
+      alike-refuses n s = go (ℕ-discrete (refusalOf t input) 0)
+        where
+          outcomes : Outcome t input out₀ out r → Outcome t input out₀′ out′ r′ → numberOf r ≡ numberOf r′
+          outcomes (Outcome.written a few fits e l o) q = absurd (n e)
+          outcomes (Outcome.short a few long e) q = absurd (s e)
+          outcomes (Outcome.unread never e) (Outcome.unread never′ e′) = e ∙ sym e′
+          outcomes (Outcome.unread never e) (Outcome.written a few fits e′ l o) = absurd (never _ a)
+          outcomes (Outcome.unread never e) (Outcome.short a few long e′) = absurd (never _ a)
+
+          go : Dec (refusalOf t input ≡ 0) → numberOf r ≡ numberOf r′
+          go (yes z) = outcomes (h .answered z) (alike-translated h′ .answered z)
+          go (no z) = h .refused z ∙ sym (alike-translated h′ .refused z)
+
+      -- a functional transducer and one that is alike give the same answer, and the same output whatever their buffers of 65,528 places hold
+      pub alike-translates : Functional t → mostWritten ≤ length out₀ → mostWritten ≤ length out₀′ → Same out₀ out out₀′ out′ r r′
+      alike-translates f room room′ = translated-same f (λ n few k. omega arith) (λ n few k. omega arith) h (alike-translated h′)
+
+  -- from one buffer, of whatever size, the whole buffer is the same too
+  pub alike-determined : {input out₀ out out′ : List ℕ} {r r′ : Translation} → Functional t
+      → Translated t input out₀ out r → Translated t′ input out₀ out′ r′ → (r ≡ r′) × (out ≡ out′)
+  alike-determined f h h′ = translated-determined f h (alike-translated h′)

@@ -1,0 +1,123 @@
+// The translator: it writes the output of an accepting path that reads a given input word (document 01, "The translator"). Its contract is
+// specs/Translated.antt. The path comes from the search of `wordsearch`, last transition first, so that the output is measured on one way back
+// along the search's parents and written, from its end to its beginning, on another.
+ghost use mathlib.Core.Path.{_≡_};
+ghost use mathlib.Core.List.{_++_};
+ghost use Prim.Native.Nat.{_+_, _≤_};
+ghost use lib.ListN.{length, drop};
+ghost use lib.Seq.{sets};
+ghost use Rattle.transducer.specs.Limits.{mostOutputs};
+ghost use Rattle.transducer.specs.Transition.{writtenBy};
+ghost use Rattle.transducer.specs.Valid.{Valid};
+ghost use Rattle.wordsearch.specs.Limits.{mostNodes};
+ghost use Rattle.wordsearch.specs.Answers.{Traced};
+ghost use Rattle.translator.specs.Words.{codesOf, bytesOf};
+ghost use Rattle.translator.specs.Translated.{Translated};
+use transducer::Transducer;
+use transducer::Transition;
+use wordsearch::limits;
+
+// What a translation answers; specs/Numbers.antt gives document 01's number of each.
+pub enum Translation {
+    Written(usize),
+    Invalid,
+    WordTooLong,
+    NoInputCode,
+    Unread,
+    BufferTooShort,
+}
+
+// Writes the output of an accepting path that reads the word `input` to the front of `out`, and returns its length; or refuses, and writes nothing.
+pub fn translate(t: Transducer, input: &[u8], out: &mut [u8]) -> Translation
+    ensures { λ r. ⌜ Translated t (now (input .entry)) (now (out .entry)) (now (out .exit)) r ⌝ }
+{
+    if !transducer::validity::valid(t) {
+        return Translation::Invalid;
+    }
+    if limits::WORD < input.len() {
+        return Translation::WordTooLong;
+    }
+    if !codes_ok(input) {
+        return Translation::NoInputCode;
+    }
+    let mut parent = [0u32; limits::NODES];
+    let mut via = [0u32; limits::NODES];
+    let place = wordsearch::find(t, input, &mut parent, &mut via);
+    if place == wordsearch::NOWHERE {
+        return Translation::Unread;
+    }
+    let size = measure(t, &parent, &via, place);
+    if out.len() < size {
+        return Translation::BufferTooShort;
+    }
+    write(t, &parent, &via, place, out, size);
+    Translation::Written(size)
+}
+
+// Whether every byte of the word is an input code.
+fn codes_ok(input: &[u8]) -> bool
+    ensures { λ r. ⌜ r ≡ codesOf (now (input .entry)) ⌝ }
+{
+    let mut ok = true;
+    let mut i = 0;
+    while i < input.len() {
+        let code = input[i];
+        ok = ok & ((1 <= code) & (code <= transducer::limits::CODE));
+        i += 1;
+    }
+    ok
+}
+
+// The length of what the path writes along which the parents lead back from the place.
+fn measure(t: Transducer, parent: &[u32], via: &[u32], place: u32) -> usize
+    requires { ⌜ Valid t ⌝ }
+    requires { ⌜ length (now parent) ≡ mostNodes ⌝ }
+    requires { ⌜ length (now via) ≡ mostNodes ⌝ }
+    requires { ⌜ Traced t (now parent) (now via) place ⌝ }
+    ensures { λ r. ⌜ ((k : Traced t (now (parent .entry)) (now (via .entry)) place) → r ≡ length (k .word)) ⌝ }
+{
+    let mut total: usize = 0;
+    let mut at = place as usize;
+    while parent[at] != 0 {
+        let l = via[at] as usize;
+        let v = t.transitions[l];
+        total += v.count as usize;
+        at = parent[at] as usize - 1;
+    }
+    total
+}
+
+// Writes what that path writes, `size` codes, to the front of `out`: the last transition's codes first, which end at `size`.
+fn write(t: Transducer, parent: &[u32], via: &[u32], place: u32, out: &mut [u8], size: usize)
+    requires { ⌜ Valid t ⌝ }
+    requires { ⌜ length (now parent) ≡ mostNodes ⌝ }
+    requires { ⌜ length (now via) ≡ mostNodes ⌝ }
+    requires { ⌜ Traced t (now parent) (now via) place ⌝ }
+    requires { ⌜ ((k : Traced t (now parent) (now via) place) → size ≡ length (k .word)) × (size ≤ length (now out)) ⌝ }
+    ensures { λ _. ⌜ ((k : Traced t (now (parent .entry)) (now (via .entry)) place)
+        → now (out .exit) ≡ bytesOf (k .word) ++ drop size (now (out .entry))) ⌝ }
+{
+    let mut to = size;
+    let mut at = place as usize;
+    while parent[at] != 0 {
+        let l = via[at] as usize;
+        let v = t.transitions[l];
+        to -= v.count as usize;
+        put(v, out, to);
+        at = parent[at] as usize - 1;
+    }
+}
+
+// Writes the output codes of a transition to `out` from the place `at` on.
+fn put(v: Transition, out: &mut [u8], at: usize)
+    requires { ⌜ v .count ≤ mostOutputs ⌝ }
+    requires { ⌜ at + v .count ≤ length (now out) ⌝ }
+    ensures { λ _. ⌜ now (out .exit) ≡ sets (now (out .entry)) at (bytesOf (writtenBy v)) ⌝ }
+{
+    let n = v.count as usize;
+    let mut j = 0;
+    while j < n {
+        out[at + j] = v.output[j].0;
+        j += 1;
+    }
+}
