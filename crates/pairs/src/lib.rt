@@ -1,0 +1,181 @@
+// Useful pairs of states (document 01, "Useful states and useful pairs"), and the ways into and out of them. The contracts cite
+// specs/UsefulPairs.antt: `UsefulPairsOf`, what `useful_pairs` answers; and specs/Ways.antt: `Ways`, what `ways` leaves.
+ghost use mathlib.Core.Path.{_≡_};
+ghost use Prim.Native.Nat.{_-_, _≤_, _<_};
+ghost use lib.ListN.{length, getD};
+ghost use Rattle.worklist.specs.Lists.{lists};
+ghost use Rattle.worklist.specs.Search.{Blank};
+ghost use Rattle.transducer.specs.Valid.{Valid};
+ghost use Rattle.pairsearch.specs.Numbers.{mostPairs};
+ghost use Rattle.pairs.specs.UsefulPairs.{hasPair, noPairs, pairsOf, UsefulPairsOf};
+ghost use Rattle.pairs.specs.Ways.{MovesBack, Tree, Ways, linkOf, Traced, Linked};
+use pairsearch::PAIRS;
+use transducer::Transducer;
+use transducer::limits;
+use transducer::reversal;
+use transducer::validity;
+
+// A set of pairs: member[32 p + q] says whether (p, q) is in it.
+pub struct PairSet {
+    pub member: [bool; PAIRS],
+}
+
+// Found, or document 01's refusal 8.
+pub enum Outcome {
+    Found,
+    Invalid,
+}
+
+// The useful pairs, and how many there are (document 01: u).
+pub struct UsefulPairs {
+    pub outcome: Outcome,
+    pub set: PairSet,
+    pub count: u16,
+}
+
+impl PairSet {
+    // The set with no pair.
+    pub fn empty() -> PairSet
+        ensures { λ r. ⌜ r ≡ noPairs ⌝ }
+    {
+        PairSet {
+            member: [false; PAIRS],
+        }
+    }
+
+    // Whether the pair (p, q) is in the set. A pair with a state over 31 is in no set.
+    pub fn contains(self, p: u8, q: u8) -> bool
+        ensures { λ r. ⌜ r ≡ hasPair self p q ⌝ }
+    {
+        let i = p as usize;
+        let j = q as usize;
+        if i < limits::STATES {
+            if j < limits::STATES {
+                return self.member[i * limits::STATES + j];
+            }
+        }
+        false
+    }
+}
+
+// The useful pairs of t; of a transducer that breaks a rule none, with refusal 8.
+pub fn useful_pairs(t: Transducer) -> UsefulPairs
+    ensures { λ r. ⌜ UsefulPairsOf t r ⌝ }
+{
+    if !validity::valid(t) {
+        let none = PairSet::empty();
+        return UsefulPairs {
+            outcome: Outcome::Invalid,
+            set: none,
+            count: 0,
+        };
+    }
+    let mut order = [0u32; PAIRS];
+    let mut rank = [0u32; PAIRS];
+    let mut parent = [0u32; PAIRS];
+    let mut via = [0u32; PAIRS];
+    let count = search_back(t, &mut order, &mut rank, &mut parent, &mut via);
+    let set = found(&rank);
+    UsefulPairs {
+        outcome: Outcome::Found,
+        set,
+        count: count as u16,
+    }
+}
+
+// The useful pairs of t, which keeps the rules, and for each a way in and a way out, as links. At a useful pair i: into[i] is 0 where i is a pair of
+// start states, else 1 + the pair before it, and into_step[i] the label of the step from there to i; out[i] is 0 where i is a pair of final states,
+// else 1 + the pair after it, and out_step[i] the label of the step from i to there. The ways in come from a third search, which is confined to the
+// useful pairs.
+pub fn ways(
+    t: Transducer,
+    into: &mut [u16],
+    into_step: &mut [u32],
+    out: &mut [u16],
+    out_step: &mut [u32],
+) -> UsefulPairs
+    requires { ⌜ Valid t ⌝ }
+    requires { ⌜ length (now into) ≡ mostPairs ⌝ }
+    requires { ⌜ length (now «into_step») ≡ mostPairs ⌝ }
+    requires { ⌜ length (now out) ≡ mostPairs ⌝ }
+    requires { ⌜ length (now «out_step») ≡ mostPairs ⌝ }
+    ensures { λ r. ⌜ Ways t r (now (into .exit)) (now («into_step» .exit)) (now (out .exit)) (now («out_step» .exit)) ⌝ }
+{
+    let mut order = [0u32; PAIRS];
+    let mut rank = [0u32; PAIRS];
+    let mut parent = [0u32; PAIRS];
+    let mut via = [0u32; PAIRS];
+    let count = search_back(t, &mut order, &mut rank, &mut parent, &mut via);
+    let set = found(&rank);
+    links(&order, &parent, &via, count, out, out_step);
+    let mut again = [0u32; PAIRS];
+    let n = pairsearch::search(t, &rank, &mut order, &mut again, &mut parent, &mut via);
+    links(&order, &parent, &via, n, into, into_step);
+    UsefulPairs {
+        outcome: Outcome::Found,
+        set,
+        count: count as u16,
+    }
+}
+
+// Writes the links of the `count` pairs that a search has found: for the pair at each place, 1 + the pair at its parent's place, or 0 for a root;
+// and the label of the step between the two.
+fn links(order: &[u32], parent: &[u32], via: &[u32], count: u32, link: &mut [u16], step: &mut [u32])
+    requires { ⌜ Traced (now order) (now parent) (now via) count ⌝ }
+    requires { ⌜ length (now link) ≡ mostPairs ⌝ }
+    requires { ⌜ length (now step) ≡ mostPairs ⌝ }
+    ensures { λ _. ⌜ Linked (now (order .entry)) (now (parent .entry)) (now (via .entry)) (now (link .exit)) (now (step .exit)) count ⌝ }
+{
+    let n = count as usize;
+    for i in 0..n {
+        let v = order[i] as usize;
+        let next = link_to(order, parent[i]);
+        link[v] = next;
+        step[v] = via[i];
+    }
+}
+
+// 1 + the pair at the place `from` - 1, or 0 where `from` is 0.
+fn link_to(order: &[u32], from: u32) -> u16
+    requires { ⌜ from ≤ length (now order) ⌝ }
+    requires { ⌜ (0 < from → getD (now order) (from - 1) 0 < mostPairs) ⌝ }
+    ensures { λ r. ⌜ r ≡ linkOf (now (order .entry)) from ⌝ }
+{
+    if from == 0 {
+        return 0;
+    }
+    let v = order[(from - 1) as usize];
+    v as u16 + 1
+}
+
+// Finds the useful pairs, by two searches: the first finds all pairs that are reached from two start states; the second is from the pairs of final
+// states over the reversed transducer, confined to what the first has found. What it leaves is the second's.
+fn search_back(
+    t: Transducer,
+    order: &mut [u32],
+    rank: &mut [u32],
+    parent: &mut [u32],
+    via: &mut [u32],
+) -> u32
+    requires { ⌜ Valid t ⌝ }
+    requires { ⌜ Blank mostPairs (lists (now order) (now rank) (now parent) (now via) 0) ⌝ }
+    ensures { λ n. ⌜ Tree t (t .finals) (MovesBack t) (lists (now (order .exit)) (now (rank .exit)) (now (parent .exit)) (now (via .exit)) n) ⌝ }
+{
+    let all = [1u32; PAIRS];
+    let mut reached = [0u32; PAIRS];
+    pairsearch::search(t, &all, order, &mut reached, parent, via);
+    let back = reversal::reversed(t);
+    pairsearch::search(back, &reached, order, rank, parent, via)
+}
+
+// The pairs that a search has found: those whose rank is not 0.
+fn found(rank: &[u32]) -> PairSet
+    requires { ⌜ length (now rank) ≡ mostPairs ⌝ }
+    ensures { λ r. ⌜ r ≡ pairsOf (now (rank .entry)) ⌝ }
+{
+    let mut member = [false; PAIRS];
+    for v in 0..PAIRS {
+        member[v] = 0 < rank[v];
+    }
+    PairSet { member }
+}

@@ -1,0 +1,3 @@
+-- The laws of the search over pairs.
+pub mod StepLaws
+pub mod ConfinedLaws

@@ -1,0 +1,8 @@
+-- Laws of the definitions, for the crates above.
+pub mod Outcomes
+pub mod Checks
+pub mod Stores
+pub mod HeaderRecord
+pub mod StateRecords
+pub mod TransitionRecords
+pub mod Validity

@@ -1,0 +1,161 @@
+-- `read` meets its contract: it is the definition, with what the calls ensure. Assumes nothing.
+use mathlib.Core.Path.{_≡_}
+use mathlib.Core.List.{List}
+use Prim.Native.Nat.{ℕ}
+use native.Mathlib.Omega.{arith}
+use borrow.Author.Tests.{eq-eqb, ne-eqb}
+use denote.Ref.{now}
+use Rattle.tablereader.specs.Header.{headerOf}
+use Rattle.tablereader.specs.Reader.{startsOf, finalsOf, transitionsOf, outcomeWith, tableWith, readOf}
+use Rattle.tablereader.proofs.HeaderRecord.{counted}
+use borrow.Author.Needs.{needs}
+use Rattle.tablereader.proofs.read.Statement.{statement}
+use Rattle.tablereader.proofs.read.Tie as tie
+
+read-header-requires : tie.Need-read-header-requires
+read-header-requires c κs = search needs
+
+read-states-requires : tie.Need-read-states-requires
+read-states-requires c κs = let h = counted _ _ (c .read-header .ensures) in search needs
+
+cast-finals-at : tie.Need-cast-finals-at
+cast-finals-at c = search needs
+
+mul-finals-at : tie.Need-mul-finals-at
+mul-finals-at c = search needs
+
+add-finals-at : tie.Need-add-finals-at
+add-finals-at c = search needs
+
+add-read-states : tie.Need-add-read-states
+add-read-states c = let h = counted _ _ (c .before .before .before .read-header .ensures) in omega arith
+
+read-states-requires-2 : tie.Need-read-states-requires-2
+read-states-requires-2 c κs = let h = counted _ _ (c .before .before .before .read-header .ensures) in search needs
+
+cast-transitions-at : tie.Need-cast-transitions-at
+cast-transitions-at c = search needs
+
+mul-transitions-at : tie.Need-mul-transitions-at
+mul-transitions-at c = search needs
+
+add-transitions-at : tie.Need-add-transitions-at
+add-transitions-at c = search needs
+
+add-first : tie.Need-add-first
+add-first c = let h = counted _ _ (c .before .before .before .before .before .before .read-header .ensures) in omega arith
+
+add-first-2 : tie.Need-add-first-2
+add-first-2 c = let h = counted _ _ (c .before .before .before .before .before .before .before .read-header .ensures) in omega arith
+
+read-transitions-requires : tie.Need-read-transitions-requires
+read-transitions-requires c κs = let h = counted _ _ (c .before .before .before .before .before .before .before .read-header .ensures) in search needs
+
+end-fault-requires : tie.Need-end-fault-requires
+end-fault-requires c κs = search needs
+
+outcome-of-requires : tie.Need-outcome-of-requires
+outcome-of-requires c κs = search needs
+
+add-outcome-of : tie.Need-add-outcome-of
+add-outcome-of c = let h = counted _ _ (c .before .before .before .before .before .before .before .before .before .before .before .read-header .ensures) in omega arith
+
+outcome-of-requires-2 : tie.Need-outcome-of-requires-2
+outcome-of-requires-2 c κs = search needs
+
+then-requires : tie.Need-then-requires
+then-requires c κs = search needs
+
+then-requires-2 : tie.Need-then-requires-2
+then-requires-2 c κs = search needs
+
+then-requires-3 : tie.Need-then-requires-3
+then-requires-3 c κs = search needs
+
+then-requires-4 : tie.Need-then-requires-4
+then-requires-4 c κs = search needs
+
+number-requires : tie.Need-number-requires
+number-requires c κs = search needs
+
+cast-t28 : tie.Need-cast-t28
+cast-t28 c = let h = counted _ _ (c .before .before .before .before .before .before .before .before .before .before .before .before .before .before .before .before .before .before .before .before .before .before .read-header .ensures) in omega arith
+
+blank-requires : tie.Need-blank-requires
+blank-requires c κs = search needs
+
+abbrev text-of : tie.After-then4 → List ℕ
+text-of c = now (c .before .before .before .before .before .before .before .before .before .before .before .before .before .before .before .before .before .before .args .text)
+
+-- the outcome is that of the definition
+outcome-read : (c : tie.After-then4) → c .then4 .result ≡ outcomeWith (text-of c) (headerOf (text-of c))
+unfolding outcomeWith startsOf finalsOf transitionsOf
+outcome-read c =
+    let calls = c .before .before .before .before .before .before in
+    rw (← calls .before .before .before .before .before .before .before .before .before .before .read-header .ensures)
+    (simp (
+      c .then4 .ensures,
+      c .before .then3 .ensures,
+      c .before .before .then2 .ensures,
+      c .before .before .before .then .ensures,
+      c .before .before .before .before .outcome-of2 .ensures,
+      calls .outcome-of .ensures,
+      calls .before .end-fault .ensures,
+      calls .before .before .read-transitions .ensures,
+      calls .before .before .before .before .before .before .read-states2 .ensures,
+      calls .before .before .before .before .before .before .before .before .before .read-states .ensures,
+    ))
+
+returns : tie.Need-returns
+unfolding readOf tableWith startsOf finalsOf transitionsOf
+returns c =
+    let number = c .before .before .before .before .before in
+    let calls = number .before .before .before .before .before .before .before .before .before in
+    rw (
+      ← outcome-read (number .before),
+      ← number .number .ensures,
+      eq-eqb _ _ (c .before .before .before .before .if1 .taken),
+      ← calls .before .before .before .before .before .before .before .before .read-header .ensures,
+    )
+    (simp (
+      calls .read-transitions .ensures,
+      calls .before .before .before .before .read-states2 .ensures,
+      calls .before .before .before .before .before .before .before .read-states .ensures,
+    ))
+
+returns-2 : tie.Need-returns-2
+unfolding readOf
+returns-2 c =
+    let number = c .before .before in
+    rw (← outcome-read (number .before), ← number .number .ensures, ne-eqb _ _ (c .before .if1 .left), c .blank .ensures)
+
+pub read-spec : {M : Type 1} → statement M
+read-spec =
+    tie.close
+    (tie.spec
+    read-header-requires
+    read-states-requires
+    cast-finals-at
+    mul-finals-at
+    add-finals-at
+    add-read-states
+    read-states-requires-2
+    cast-transitions-at
+    mul-transitions-at
+    add-transitions-at
+    add-first
+    add-first-2
+    read-transitions-requires
+    end-fault-requires
+    outcome-of-requires
+    add-outcome-of
+    outcome-of-requires-2
+    then-requires
+    then-requires-2
+    then-requires-3
+    then-requires-4
+    number-requires
+    cast-t28
+    blank-requires
+    returns
+    returns-2)

@@ -1,0 +1,51 @@
+-- `state_record` meets its contract: it is the definition, with what the calls ensure. Assumes nothing.
+use borrow.Author.Needs.{needs}
+use Rattle.tablereader.specs.States.{stateRecord}
+use Rattle.tablereader.proofs.states.state_record.Statement.{statement}
+use Rattle.tablereader.proofs.states.state_record.Tie as tie
+
+byte-fault-requires : tie.Need-byte-fault-requires
+byte-fault-requires c κs = search needs
+
+add-number-at : tie.Need-add-number-at
+add-number-at c = search needs
+
+sub-number-at : tie.Need-sub-number-at
+sub-number-at c = search needs
+
+number-at-requires : tie.Need-number-at-requires
+number-at-requires c κs = search needs
+
+rising-fault-requires : tie.Need-rising-fault-requires
+rising-fault-requires c κs = search needs
+
+add-byte-fault : tie.Need-add-byte-fault
+add-byte-fault c = search needs
+
+byte-fault-requires-2 : tie.Need-byte-fault-requires-2
+byte-fault-requires-2 c κs = search needs
+
+slice-aggregate-first-of : tie.Need-slice-aggregate-first-of
+slice-aggregate-first-of c = search needs
+
+first-of-requires : tie.Need-first-of-requires
+first-of-requires c κs = search needs
+
+returns : tie.Need-returns
+unfolding stateRecord
+returns c = cc
+
+pub state-record-spec : {M : Type 1} → statement M
+state-record-spec =
+    tie.close
+    (tie.spec
+    byte-fault-requires
+    add-number-at
+    sub-number-at
+    number-at-requires
+    rising-fault-requires
+    add-byte-fault
+    byte-fault-requires-2
+    slice-aggregate-first-of
+    first-of-requires
+    returns)

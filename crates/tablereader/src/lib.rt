@@ -1,0 +1,143 @@
+// The reader of a table file (document 01, "The file"). It checks strictly from left to right, and a refusal leaves the blank transducer.
+// The contract of `read` cites specs/Reader.antt, where the whole format is one definition; specs/Outcome.antt gives each outcome its number.
+// A refused check does not end the reading of a record or of a file: the reading goes on, and of all refusals the first one counts.
+ghost use mathlib.Core.Path.{_≡_};
+ghost use Rattle.tablereader.specs.Outcome.{numberOf, outcomeOf, _▸_};
+ghost use Rattle.tablereader.specs.Reader.{endFault, readOf};
+
+pub mod header;
+pub mod record;
+pub mod states;
+pub mod transitions;
+
+use transducer::Transducer;
+
+// What became of a file: it was taken, or it was refused at the record whose number is given. Records count from 0 for `T`.
+pub enum Outcome {
+    Taken,
+    Ended(u16),
+    WrongByte(u16),
+    NotANumber(u16),
+    OutOfRange(u16),
+    NotRising(u16),
+    BytesFollow(u16),
+    TooLong(u16),
+}
+
+// The outcome, and the transducer of the file, or the blank one where it was refused.
+pub struct Reading {
+    pub outcome: Outcome,
+    pub table: Transducer,
+}
+
+// Reads a table file.
+pub fn read(text: &[u8]) -> Reading
+    ensures { λ r. ⌜ r ≡ readOf (now (text .entry)) ⌝ }
+{
+    let counts = header::read_header(text);
+    let starts = states::read_states(text, header::SIZE, b'S', counts.states, counts.starts, 1);
+    let finals_at = header::SIZE + states::SIZE * counts.starts as usize;
+    let finals = states::read_states(
+        text,
+        finals_at,
+        b'F',
+        counts.states,
+        counts.finals,
+        1 + counts.starts,
+    );
+    let transitions_at = finals_at + states::SIZE * counts.finals as usize;
+    let first = 1 + counts.starts + counts.finals;
+    let rest = transitions::read_transitions(
+        text,
+        transitions_at,
+        counts.states,
+        counts.transitions,
+        first,
+    );
+    let end = end_fault(text, rest.next);
+    let of_header = outcome_of(counts.fault, 0);
+    let of_starts = starts.outcome;
+    let of_finals = finals.outcome;
+    let of_transitions = rest.outcome;
+    let of_end = outcome_of(end, first + counts.transitions);
+    let outcome = of_header
+        .then(of_starts)
+        .then(of_finals)
+        .then(of_transitions)
+        .then(of_end);
+    if outcome.number() == 0 {
+        let start_set = starts.set;
+        let final_set = finals.set;
+        let transitions = rest.transitions;
+        Reading {
+            outcome,
+            table: Transducer {
+                states: counts.states as u8,
+                starts: start_set,
+                finals: final_set,
+                count: counts.transitions,
+                transitions,
+            },
+        }
+    } else {
+        Reading {
+            outcome,
+            table: transducer::blank(),
+        }
+    }
+}
+
+// The refusal's number after the last record, which ends before `at`: bytes may follow, or the file be too long.
+fn end_fault(text: &[u8], at: usize) -> u8
+    ensures { λ r. ⌜ r ≡ endFault (now (text .entry)) at ⌝ }
+{
+    if at < text.len() {
+        return record::BYTES_FOLLOW;
+    }
+    if record::MOST_BYTES < text.len() {
+        record::TOO_LONG
+    } else {
+        0
+    }
+}
+
+impl Outcome {
+    // Document 01's number of the outcome, 0 for a file that was taken.
+    pub fn number(self) -> u8
+        ensures { λ r. ⌜ r ≡ numberOf self ⌝ }
+    {
+        match self {
+            Outcome::Taken => 0,
+            Outcome::Ended(_) => record::ENDED,
+            Outcome::WrongByte(_) => record::WRONG_BYTE,
+            Outcome::NotANumber(_) => record::NOT_A_NUMBER,
+            Outcome::OutOfRange(_) => record::OUT_OF_RANGE,
+            Outcome::NotRising(_) => record::NOT_RISING,
+            Outcome::BytesFollow(_) => record::BYTES_FOLLOW,
+            Outcome::TooLong(_) => record::TOO_LONG,
+        }
+    }
+
+    // The outcome of two readings in a row: that of the first where it was refused, else that of the second.
+    pub fn then(self, next: Outcome) -> Outcome
+        ensures { λ r. ⌜ r ≡ self ▸ next ⌝ }
+    {
+        if self.number() == 0 { next } else { self }
+    }
+}
+
+// The outcome with a number, at a record.
+pub fn outcome_of(fault: u8, at: u16) -> Outcome
+    ensures { λ r. ⌜ r ≡ outcomeOf fault at ⌝ }
+{
+    match fault {
+        0 => Outcome::Taken,
+        1 => Outcome::Ended(at),
+        2 => Outcome::WrongByte(at),
+        3 => Outcome::NotANumber(at),
+        4 => Outcome::OutOfRange(at),
+        5 => Outcome::NotRising(at),
+        6 => Outcome::BytesFollow(at),
+        _ => Outcome::TooLong(at),
+    }
+}

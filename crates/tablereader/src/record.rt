@@ -1,0 +1,72 @@
+// What every record is made of: the numbers of the refusals, and a number that must stand in a range.
+ghost use mathlib.Core.Path.{_≡_};
+ghost use Rattle.tablereader.specs.Record.{firstOf, numberAt};
+use fields::Field;
+
+// The refusals of document 01, "What a refused call hands over".
+pub const ENDED: u8 = 1;
+
+pub const WRONG_BYTE: u8 = 2;
+
+pub const NOT_A_NUMBER: u8 = 3;
+
+pub const OUT_OF_RANGE: u8 = 4;
+
+pub const NOT_RISING: u8 = 5;
+
+pub const BYTES_FOLLOW: u8 = 6;
+
+pub const TOO_LONG: u8 = 12;
+
+// The byte that ends a record.
+pub const END: u8 = 10;
+
+// The longest file: a header, 32 start and 32 final states, and 256 transitions of 8 output codes.
+pub const MOST_BYTES: usize = 13202;
+
+// A number that was read, with the refusal's number, 0 where there is none. A number that was refused is given the least value of its range.
+pub struct Number {
+    pub fault: u8,
+    pub value: u16,
+}
+
+// The number in the field at `at`, which must be from `low` to `high`.
+pub fn number_at(text: &[u8], at: usize, low: u16, high: u16) -> Number
+    ensures { λ r. ⌜ r ≡ numberAt (now (text .entry)) at low high ⌝ }
+{
+    let f = fields::field_at(text, at);
+    match f {
+        Field::Ended => Number {
+            fault: ENDED,
+            value: low,
+        },
+        Field::NotANumber => Number {
+            fault: NOT_A_NUMBER,
+            value: low,
+        },
+        Field::Value(v) => {
+            if (low <= v) & (v <= high) {
+                Number { fault: 0, value: v }
+            } else {
+                Number {
+                    fault: OUT_OF_RANGE,
+                    value: low,
+                }
+            }
+        }
+    }
+}
+
+// The first of the faults that is one, or 0.
+pub fn first_of(faults: &[u8]) -> u8
+    ensures { λ r. ⌜ r ≡ firstOf (now (faults .entry)) ⌝ }
+{
+    let mut i = 0;
+    while i < faults.len() {
+        if faults[i] != 0 {
+            return faults[i];
+        }
+        i += 1;
+    }
+    0
+}

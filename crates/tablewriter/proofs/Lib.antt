@@ -1,0 +1,5 @@
+-- Laws of the definitions, for the crates above.
+pub mod PutsLaws
+pub mod FileLaws
+pub mod LengthLaws
+pub mod Determined
