@@ -42,7 +42,16 @@ first-of-requires c κs = search needs
 
 returns : tie.Need-returns
 unfolding headerOf
-returns c = cc
+returns c =
+    simp (
+      c .first-of .ensures,
+      c .before .before .byte-fault2 .ensures,
+      c .before .before .before .number-at4 .ensures,
+      c .before .before .before .before .number-at3 .ensures,
+      c .before .before .before .before .before .number-at2 .ensures,
+      c .before .before .before .before .before .before .number-at .ensures,
+      c .before .before .before .before .before .before .before .byte-fault .ensures,
+    )
 
 pub read-header-spec : {M : Type 1} → statement M
 read-header-spec =

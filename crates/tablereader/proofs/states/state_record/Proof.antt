@@ -33,7 +33,14 @@ first-of-requires c κs = search needs
 
 returns : tie.Need-returns
 unfolding stateRecord
-returns c = cc
+returns c =
+    simp (
+      c .first-of .ensures,
+      c .before .before .byte-fault2 .ensures,
+      c .before .before .before .rising-fault .ensures,
+      c .before .before .before .before .number-at .ensures,
+      c .before .before .before .before .before .byte-fault .ensures,
+    )
 
 pub state-record-spec : {M : Type 1} → statement M
 state-record-spec =

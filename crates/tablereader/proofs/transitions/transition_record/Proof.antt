@@ -91,7 +91,17 @@ cast-t25 c = omega (arith, value-high _ _ _ _ _ (c .before .before .before .befo
 
 returns : tie.Need-returns
 unfolding transitionRecord
-returns c = cc
+returns c =
+    simp (
+      c .before .before .before .before .first-of .ensures,
+      c .before .before .before .before .before .before .before .byte-fault2 .ensures,
+      c .before .before .before .before .before .before .before .before .before .read-outputs .ensures,
+      c .before .before .before .before .before .before .before .before .before .before .number-at4 .ensures,
+      c .before .before .before .before .before .before .before .before .before .before .before .number-at3 .ensures,
+      c .before .before .before .before .before .before .before .before .before .before .before .before .number-at2 .ensures,
+      c .before .before .before .before .before .before .before .before .before .before .before .before .before .number-at .ensures,
+      c .before .before .before .before .before .before .before .before .before .before .before .before .before .before .byte-fault .ensures,
+    )
 
 pub transition-record-spec : {M : Type 1} → statement M
 transition-record-spec =
