@@ -34,7 +34,7 @@ pub struct Number {
 pub fn number_at(text: &[u8], at: usize, low: u16, high: u16) -> Number
     ensures { λ r. ⌜ r ≡ numberAt (now (text .entry)) at low high ⌝ }
 {
-    let f = fields::field_at(text, at);
+    let f = recordreader::field_of(text, at);
     match f {
         Field::Ended => Number {
             fault: ENDED,

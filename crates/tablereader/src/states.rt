@@ -47,10 +47,10 @@ fn state_record(text: &[u8], at: usize, letter: u8, n: u16, low: u16) -> Number
     requires { ⌜ (at + stateSize ≤ mostBytes) × (1 ≤ n) ⌝ }
     ensures { λ r. ⌜ r ≡ stateRecord (now (text .entry)) letter n at low ⌝ }
 {
-    let first = fields::byte_fault(text, at, letter);
+    let first = recordreader::byte_of(text, at, letter);
     let state = record::number_at(text, at + 1, 0, n - 1);
     let rising = rising_fault(low, state.value);
-    let end = fields::byte_fault(text, at + 5, record::END);
+    let end = recordreader::byte_of(text, at + 5, record::END);
     let faults = [first, state.fault, rising, end];
     Number {
         fault: record::first_of(&faults),

@@ -4,8 +4,8 @@ use Rattle.tablereader.specs.Record.{numberAt}
 use Rattle.tablereader.proofs.record.number_at.Statement.{statement}
 use Rattle.tablereader.proofs.record.number_at.Tie as tie
 
-field-at-requires : tie.Need-field-at-requires
-field-at-requires c κs = search needs
+field-of-requires : tie.Need-field-of-requires
+field-of-requires c κs = search needs
 
 enum-told : tie.Need-enum-told
 enum-told c = search needs
@@ -18,25 +18,25 @@ enum-known-f c = search needs
 
 returns : tie.Need-returns
 unfolding numberAt
-returns c = rw (← c .before .before .field-at .ensures, c .enum-told .given .1)
+returns c = rw (← c .before .before .field-of .ensures, c .enum-told .given .1)
 
 returns-2 : tie.Need-returns-2
 unfolding numberAt
-returns-2 c = rw (← c .before .before .field-at .ensures, c .enum-told2 .given .1)
+returns-2 c = rw (← c .before .before .field-of .ensures, c .enum-told2 .given .1)
 
 returns-3 : tie.Need-returns-3
 unfolding numberAt
-returns-3 c = rw (← c .before .before .before .before .field-at .ensures, c .before .before .f .given .1, c .if1 .taken)
+returns-3 c = rw (← c .before .before .before .before .field-of .ensures, c .before .before .f .given .1, c .if1 .taken)
 
 returns-4 : tie.Need-returns-4
 unfolding numberAt
-returns-4 c = rw (← c .before .before .before .before .field-at .ensures, c .before .before .f .given .1, c .if1 .left)
+returns-4 c = rw (← c .before .before .before .before .field-of .ensures, c .before .before .f .given .1, c .if1 .left)
 
 pub number-at-spec : {M : Type 1} → statement M
 number-at-spec =
     tie.close
     (tie.spec
-    field-at-requires
+    field-of-requires
     enum-told
     enum-told-2
     enum-known-f

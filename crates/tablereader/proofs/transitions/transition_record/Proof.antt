@@ -6,8 +6,8 @@ use Rattle.tablereader.proofs.Checks.{value-high}
 use Rattle.tablereader.proofs.transitions.transition_record.Statement.{statement}
 use Rattle.tablereader.proofs.transitions.transition_record.Tie as tie
 
-byte-fault-requires : tie.Need-byte-fault-requires
-byte-fault-requires c κs = search needs
+byte-of-requires : tie.Need-byte-of-requires
+byte-of-requires c κs = search needs
 
 add-number-at : tie.Need-add-number-at
 add-number-at c = search needs
@@ -65,8 +65,8 @@ mul-last c = search needs
 add-last-2 : tie.Need-add-last-2
 add-last-2 c = search needs
 
-byte-fault-requires-2 : tie.Need-byte-fault-requires-2
-byte-fault-requires-2 c κs = search needs
+byte-of-requires-2 : tie.Need-byte-of-requires-2
+byte-of-requires-2 c κs = search needs
 
 slice-aggregate-first-of : tie.Need-slice-aggregate-first-of
 slice-aggregate-first-of c = search needs
@@ -94,20 +94,20 @@ unfolding transitionRecord
 returns c =
     simp (
       c .before .before .before .before .first-of .ensures,
-      c .before .before .before .before .before .before .before .byte-fault2 .ensures,
+      c .before .before .before .before .before .before .before .byte-of2 .ensures,
       c .before .before .before .before .before .before .before .before .before .read-outputs .ensures,
       c .before .before .before .before .before .before .before .before .before .before .number-at4 .ensures,
       c .before .before .before .before .before .before .before .before .before .before .before .number-at3 .ensures,
       c .before .before .before .before .before .before .before .before .before .before .before .before .number-at2 .ensures,
       c .before .before .before .before .before .before .before .before .before .before .before .before .before .number-at .ensures,
-      c .before .before .before .before .before .before .before .before .before .before .before .before .before .before .byte-fault .ensures,
+      c .before .before .before .before .before .before .before .before .before .before .before .before .before .before .byte-of .ensures,
     )
 
 pub transition-record-spec : {M : Type 1} → statement M
 transition-record-spec =
     tie.close
     (tie.spec
-    byte-fault-requires
+    byte-of-requires
     add-number-at
     sub-number-at
     number-at-requires
@@ -126,7 +126,7 @@ transition-record-spec =
     cast-last
     mul-last
     add-last-2
-    byte-fault-requires-2
+    byte-of-requires-2
     slice-aggregate-first-of
     first-of-requires
     add-t14

@@ -1,0 +1,3 @@
+-- What the walks over the record reader share.
+pub mod Parts
+pub mod Walk
