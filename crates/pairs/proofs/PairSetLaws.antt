@@ -25,7 +25,8 @@ use Rattle.pairs.specs.Ways.{Tree}
 use Rattle.pairs.specs.declared.Outcome.{Outcome}
 use Rattle.pairs.specs.declared.PairSet.{PairSet}
 use Rattle.pairs.specs.declared.UsefulPairs.{UsefulPairs}
-use Rattle.pairs.proofs.UsefulLaws.{pair-first, pair-second, pair-again, useful-low}
+use Rattle.pairsearch.proofs.StepLaws.{pair-first, pair-second, pair-again}
+use Rattle.pairs.proofs.UsefulLaws.{useful-low}
 
 -- ---- what a set holds
 

@@ -27,8 +27,8 @@ use Rattle.transducer.proofs.ReversalLaws.{reversed-at, reversed-edge, reversed
 use Rattle.pairsearch.specs.Numbers.{mostPairs, pairOf, firstOf, secondOf, noTransition, labelOf, stepOf, PairIn, Moves}
 use Rattle.pairsearch.specs.Confined.{Allowed, Begins, Goes}
 use Rattle.pairs.specs.Ways.{MovesBack, Tree}
-use Rattle.pairsearch.proofs.StepLaws.{both-label, left-label, right-label}
-use Rattle.pairsearch.proofs.ConfinedLaws.{edge-low, edge-number}
+use Rattle.pairsearch.proofs.StepLaws.{pair-first, pair-second, pair-again, both-label, left-label, right-label}
+use Rattle.pairsearch.proofs.SideLaws.{edge-low, edge-number}
 
 -- a search may begin with lists of 1,024 places and fresh ranks
 pub fresh : {order parent via : List ℕ} → length order ≡ mostPairs → length parent ≡ mostPairs → length via ≡ mostPairs
@@ -40,16 +40,6 @@ pub zeros-long : length {A = ℕ} (replicate mostPairs 0) ≡ mostPairs
 zeros-long = length-replicate {A = ℕ} mostPairs 0
 
 -- ---- moves between pairs, by their numbers
-
--- the number of a pair has its two states
-pub pair-first : (p q : ℕ) → q < mostStates → firstOf (pairOf p q) ≡ p
-pair-first p q h = omega arith
-
-pub pair-second : (p q : ℕ) → q < mostStates → secondOf (pairOf p q) ≡ q
-pair-second p q h = omega arith
-
-pub pair-again : (v : ℕ) → pairOf (firstOf v) (secondOf v) ≡ v
-pair-again v = omega arith
 
 module _ {t : Transducer} (valid : Valid t) where
   -- a move leads to states below 32

@@ -1,3 +1,4 @@
 -- The laws of the search over pairs.
 pub mod StepLaws
+pub mod SideLaws
 pub mod ConfinedLaws

@@ -1,4 +1,5 @@
--- Laws of the labels of steps: each label of a step decodes to that step, and a step that leads from a pair to a pair has such a label.
+-- Laws of the numbers of pairs and of the labels of steps: each label of a step decodes to that step, and a step that leads from a pair to a pair
+-- has such a label.
 -- Assumes nothing.
 use mathlib.Core.Path.{_≡_, refl}
 use mathlib.Core.Bool.{Bool, true, false}
@@ -7,11 +8,22 @@ use Prim.Native.Nat.{ℕ, _/_, _%_, _<_}
 use native.Mathlib.Omega.{arith}
 use borrow.Author.Tests.{ne-eqb, eqb-true}
 use lib.Dec.{eqb}
-use Rattle.transducer.specs.Limits.{mostTransitions}
+use Rattle.transducer.specs.Limits.{mostStates, mostTransitions}
 use Rattle.transducer.specs.StateSet.{pick}
 use Rattle.transducer.specs.Walks.{both, left, right, inputOf, Edge, Move}
 use Rattle.transducer.specs.declared.Transducer.{Transducer}
-use Rattle.pairsearch.specs.Numbers.{firstOf, secondOf, noTransition, sides, labelOf, stepOf, Moves}
+use Rattle.pairsearch.specs.Numbers.{pairOf, firstOf, secondOf, noTransition, sides, labelOf, stepOf, Moves}
+
+-- ---- the number of a pair has its two states
+
+pub pair-first : (p q : ℕ) → q < mostStates → firstOf (pairOf p q) ≡ p
+pair-first p q h = omega arith
+
+pub pair-second : (p q : ℕ) → q < mostStates → secondOf (pairOf p q) ≡ q
+pair-second p q h = omega arith
+
+pub pair-again : (v : ℕ) → pairOf (firstOf v) (secondOf v) ≡ v
+pair-again v = omega arith
 
 -- ---- the three kinds of label decode back
 

@@ -15,7 +15,8 @@ use Rattle.transducer.specs.Transition.{at}
 use Rattle.transducer.proofs.Bools.{and-left, and-right}
 use Rattle.pairsearch.specs.Numbers.{mostPairs, secondOf}
 use Rattle.pairsearch.specs.Confined.{Begins, Goes}
-use Rattle.pairsearch.proofs.ConfinedLaws.{not-both, side-low, side-base, side-moves, side-only, side-past, scanned-offer}
+use Rattle.pairsearch.proofs.SideLaws.{side-low, side-base, side-moves, side-only, side-past}
+use Rattle.pairsearch.proofs.ConfinedLaws.{not-both, scanned-offer}
 use Rattle.pairsearch.proofs.beside.Statement.{statement}
 use Rattle.pairsearch.proofs.beside.Tie as tie
 

@@ -11,7 +11,8 @@ use Rattle.worklist.proofs.Stages.{scanned-none, scanned-skip, scanned-join, ex
 use Rattle.pairsearch.specs.Numbers.{mostPairs, firstOf, sides}
 use Rattle.pairsearch.specs.Confined.{Begins, Goes}
 use Rattle.pairsearch.specs.Confined.LeftSide.{rests}
-use Rattle.pairsearch.proofs.ConfinedLaws.{in-row, in-row-edge, no-row, label-low, ready-after}
+use Rattle.pairsearch.proofs.SideLaws.{in-row, in-row-edge, no-row, label-low}
+use Rattle.pairsearch.proofs.ConfinedLaws.{ready-after}
 use Rattle.pairsearch.proofs.expand.Statement.{statement}
 use Rattle.pairsearch.proofs.expand.Tie as tie
 

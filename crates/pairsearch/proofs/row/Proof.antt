@@ -7,7 +7,8 @@ use Rattle.transducer.specs.Transition.{at}
 use Rattle.transducer.specs.Walks.{Edge}
 use Rattle.pairsearch.specs.Numbers.{firstOf}
 use Rattle.pairsearch.specs.Confined.LeftSide.{moves}
-use Rattle.pairsearch.proofs.ConfinedLaws.{edge-low, row-alone, row-paired}
+use Rattle.pairsearch.proofs.SideLaws.{edge-low}
+use Rattle.pairsearch.proofs.ConfinedLaws.{row-alone, row-paired}
 use borrow.Author.Needs.{needs}
 use Rattle.pairsearch.proofs.row.Statement.{statement}
 use Rattle.pairsearch.proofs.row.Tie as tie

@@ -1,0 +1,59 @@
+-- A file is taken exactly when each of its checks passes. Assumes nothing.
+use mathlib.Core.Path.{_≡_, refl, ap}
+use mathlib.Core.Bool.{Bool, true, false, cond}
+use Prim.Native.Nat.{ℕ, _≤_}
+use native.Mathlib.Omega.{arith}
+use borrow.Author.Tests.{eqb-true, eqb-false}
+use lib.Dec.{eqb}
+use Rattle.tablereader.specs.Outcome.{ended, wrongByte, notANumber, outOfRange, notRising, bytesFollow, numberOf, outcomeOf, _▸_}
+use Rattle.tablereader.specs.declared.Outcome.{Outcome}
+use Rattle.tablereader.specs.declared.Outcome.the-variants.{Taken, Ended, WrongByte, NotANumber, OutOfRange, NotRising, BytesFollow, TooLong}
+use Rattle.tablereader.proofs.Outcomes.{taken-number}
+
+-- two readings in a row are taken if both are
+pub then-taken : (a b : Outcome) → a ▸ b ≡ Taken → (a ≡ Taken) × (b ≡ Taken)
+unfolding _▸_
+then-taken a b e = go (eqb (numberOf a) 0) refl e
+  where
+    go : (x : Bool) → eqb (numberOf a) 0 ≡ x → cond x b a ≡ Taken → (a ≡ Taken) × (b ≡ Taken)
+    go true t r = (taken-number a (eqb-true (numberOf a) 0 t), r)
+    go false t r = absurd (eqb-false (numberOf a) 0 t (ap numberOf r))
+
+-- an outcome that is not taken
+record Refused (o : Outcome) : Type 0 where
+  number : 1 ≤ numberOf o
+
+either : (x : Bool) {a b : Outcome} → Refused a → Refused b → Refused (cond x a b)
+either true p q = p
+either false p q = q
+
+-- the outcome with a number is taken only if that is 0
+pub taken-passes : (fault at : ℕ) → outcomeOf fault at ≡ Taken → fault ≡ 0
+unfolding outcomeOf
+taken-passes fault at e = go (eqb fault 0) refl e
+  where
+    refused : (o : Outcome) → 1 ≤ numberOf o → Refused o
+    refused o h = record { number = h }
+
+    others : Outcome
+    others =
+        cond (eqb fault ended) (Ended at)
+        (cond (eqb fault wrongByte) (WrongByte at)
+        (cond (eqb fault notANumber) (NotANumber at)
+        (cond (eqb fault outOfRange) (OutOfRange at)
+        (cond (eqb fault notRising) (NotRising at)
+        (cond (eqb fault bytesFollow) (BytesFollow at)
+        (TooLong at))))))
+
+    others-refused : Refused others
+    others-refused =
+        either (eqb fault ended) (refused (Ended at) (omega arith))
+        (either (eqb fault wrongByte) (refused (WrongByte at) (omega arith))
+        (either (eqb fault notANumber) (refused (NotANumber at) (omega arith))
+        (either (eqb fault outOfRange) (refused (OutOfRange at) (omega arith))
+        (either (eqb fault notRising) (refused (NotRising at) (omega arith))
+        (either (eqb fault bytesFollow) (refused (BytesFollow at) (omega arith)) (refused (TooLong at) (omega arith)))))))
+
+    go : (x : Bool) → eqb fault 0 ≡ x → cond x Taken others ≡ Taken → fault ≡ 0
+    go true t r = eqb-true fault 0 t
+    go false t r = let none = ap numberOf r in let some = others-refused .number in absurd (omega arith)

@@ -1,0 +1,130 @@
+-- Writing what was read of a file that was taken gives the file's bytes. Each record that was taken is the one that is written of what it gave, and
+-- nothing follows the last. Assumes nothing.
+use mathlib.Core.Path.{_≡_, refl, sym, ap, _∙_}
+use mathlib.Core.Bool.{Bool, true, false, cond}
+use mathlib.Core.List.{List, [], _++_, flatten}
+use Prim.Native.Nat.{ℕ, _+_, _*_}
+use native.Mathlib.Omega.{arith}
+use borrow.Author.Tests.{ltb-false}
+use lib.Dec.{ltb}
+use lib.ListN.{length, drop, drop-of-length-le}
+use Rattle.fields.specs.Letters.{letterS, letterF, mostBytes}
+use Rattle.transducer.specs.Limits.{mostTransitions}
+use Rattle.transducer.specs.StateSet.{noStates}
+use Rattle.transducer.specs.Transition.{outside, at, firsts}
+use Rattle.transducer.specs.Blank.{clearTransition, blankTransducer}
+use Rattle.transducer.specs.declared.StateSet.{StateSet}
+use Rattle.transducer.specs.declared.Transducer.{Transducer}
+use Rattle.tablereader.specs.Outcome.{bytesFollow, tooLong, outcomeOf, _▸_}
+use Rattle.tablereader.specs.Record.{headerSize, stateSize}
+use Rattle.tablereader.specs.Header.{headerOf}
+use Rattle.tablereader.specs.States.{statesFrom}
+use Rattle.tablereader.specs.Transitions.{transitionsFrom}
+use Rattle.tablereader.specs.Reader.{endFault, startsOf, finalsOf, transitionsOf, outcomeWith, tableWith, readOf}
+use Rattle.tablereader.specs.declared.header.Header.{Header}
+use Rattle.tablereader.specs.declared.Outcome.the-variants.{Taken}
+use Rattle.tablereader.proofs.HeaderRecord.{Counted, counted}
+use Rattle.tablewriter.specs.File.{statesOf, sizeOf, stateBytes, transitionBytesBelow, headerBytes, writeOf}
+use Rattle.tablewriter.proofs.FileLaws.{file-parts}
+use Rattle.tablefile.proofs.TakenLaws.{then-taken, taken-passes}
+use Rattle.tablefile.proofs.Rising.{added-states}
+use Rattle.tablefile.proofs.Filled.{firsts-filled}
+use Rattle.tablefile.proofs.HeaderRecord.{bytesOf, header-back}
+use Rattle.tablefile.proofs.StateRecords.{states-back}
+use Rattle.tablefile.proofs.TransitionRecords.{transitions-back}
+
+-- where the end passes its check nothing follows
+end-back : (text : List ℕ) (at : ℕ) → endFault text at ≡ 0 → drop at text ≡ []
+unfolding endFault
+end-back text at e = go (ltb at (length text)) refl e
+  where
+    go : (x : Bool) → ltb at (length text) ≡ x → cond x bytesFollow (cond (ltb mostBytes (length text)) tooLong 0) ≡ 0 → drop at text ≡ []
+    go true t r = absurd (omega arith)
+    go false t r = drop-of-length-le text (ltb-false at (length text) t)
+
+module _ (text : List ℕ) (h : Header) (c : Counted h) where
+  -- the records that gave a set are the ones that are written of it, and are as many
+  record SetBack (letter k place : ℕ) (set : StateSet) : Type 0 where
+    size : sizeOf set ≡ k
+    bytes : drop place text ≡ stateBytes letter (statesOf set) ++ drop (place + stateSize * k) text
+
+  set-back : (letter k place rec : ℕ) → statesFrom k text letter (h .states) place rec .outcome ≡ Taken
+      → SetBack letter k place (statesFrom k text letter (h .states) place rec .set)
+  unfolding statesFrom sizeOf
+  set-back letter k place rec e =
+      let b = states-back text letter (h .states) k place 0 rec Taken noStates (c .some-state) e in
+      let same = added-states (h .states) (b .states) (c .few-states) (b .rising) in
+      rw (b .set) (record { size = ap length same ∙ b .size; bytes = rw same (b .bytes) })
+
+  -- the records that gave the transitions are the ones that are written of them
+  transitions-same : (t : Transducer) (place rec : ℕ) → t .count ≡ h .transitions → t .transitions ≡ transitionsFrom (h .transitions) text (h .states) place rec .transitions
+      → transitionsFrom (h .transitions) text (h .states) place rec .outcome ≡ Taken
+      → drop place text ≡ transitionBytesBelow t (t .count) ++ drop (transitionsFrom (h .transitions) text (h .states) place rec .next) text
+  unfolding transitionsFrom blankTransducer transitionBytesBelow
+  transitions-same t place rec k e o =
+      let few = c .few-transitions in
+      let b = transitions-back text (h .states) (h .transitions) place rec 0 Taken (blankTransducer .transitions) o in
+      let same : firsts (t .count) (at t) ≡ b .list =
+      rw (k, e, b .stored) (rw (b .size) at (firsts-filled outside clearTransition mostTransitions (b .list) (omega (arith, b .size))))
+      in
+      rw same (b .bytes)
+
+  -- every part of the file was taken
+  record Parts : Type 0 where
+    header : h .fault ≡ 0
+    starts : startsOf text h .outcome ≡ Taken
+    finals : finalsOf text h .outcome ≡ Taken
+    transitions : transitionsOf text h .outcome ≡ Taken
+    end : endFault text (transitionsOf text h .next) ≡ 0
+
+  parts : outcomeWith text h ≡ Taken → Parts
+  unfolding outcomeWith
+  parts e =
+      let a = then-taken (outcomeOf (h .fault) 0 ▸ startsOf text h .outcome ▸ finalsOf text h .outcome ▸ transitionsOf text h .outcome) _ e in
+      let b = then-taken (outcomeOf (h .fault) 0 ▸ startsOf text h .outcome ▸ finalsOf text h .outcome) _ (a .0) in
+      let d = then-taken (outcomeOf (h .fault) 0 ▸ startsOf text h .outcome) _ (b .0) in
+      let f = then-taken (outcomeOf (h .fault) 0) _ (d .0) in
+      record {
+        header = taken-passes (h .fault) 0 (f .0);
+        starts = f .1;
+        finals = d .1;
+        transitions = b .1;
+        end = taken-passes (endFault text (transitionsOf text h .next)) _ (a .1);
+      }
+
+  starts-back : Parts → SetBack letterS (h .starts) headerSize (tableWith text h .starts)
+  unfolding tableWith startsOf
+  starts-back p = set-back letterS (h .starts) headerSize 1 (p .starts)
+
+  finals-back : Parts → SetBack letterF (h .finals) (headerSize + stateSize * h .starts) (tableWith text h .finals)
+  unfolding tableWith finalsOf
+  finals-back p = set-back letterF (h .finals) (headerSize + stateSize * h .starts) (1 + h .starts) (p .finals)
+
+  all-back : Parts → drop (headerSize + stateSize * h .starts + stateSize * h .finals) text ≡ transitionBytesBelow (tableWith text h) (tableWith text h .count) ++ []
+  unfolding tableWith transitionsOf
+  all-back p =
+      rw (← end-back text (transitionsOf text h .next) (p .end))
+      (transitions-same (tableWith text h) _ (1 + h .starts + h .finals) refl refl (p .transitions))
+
+  -- the records that were taken, one behind the other, are the file
+  all-written : (t : Transducer) → t .states ≡ h .states → t .count ≡ h .transitions → SetBack letterS (h .starts) headerSize (t .starts)
+      → SetBack letterF (h .finals) (headerSize + stateSize * h .starts) (t .finals)
+      → drop (headerSize + stateSize * h .starts + stateSize * h .finals) text ≡ transitionBytesBelow t (t .count) ++ []
+      → text ≡ bytesOf h ++ drop headerSize text → writeOf t ≡ text
+  unfolding headerBytes flatten
+  all-written t n k s f l e =
+      let header : bytesOf h ≡ headerBytes t = rw (n, k, s .size, f .size) in
+      sym (e ∙ rw (header, s .bytes, f .bytes, l) (sym (file-parts t)))
+
+  table-written : Parts → text ≡ bytesOf h ++ drop headerSize text → writeOf (tableWith text h) ≡ text
+  unfolding tableWith
+  table-written p e = all-written (tableWith text h) refl refl (starts-back p) (finals-back p) (all-back p) e
+
+-- writing a read file gives its bytes
+pub written-read : (f : List ℕ) → readOf f .outcome ≡ Taken → writeOf (readOf f .table) ≡ f
+unfolding readOf
+written-read f e =
+    let h = headerOf f in
+    let c = counted f h refl in
+    let p = parts f h c e in
+    rw e (table-written f h c p (header-back f (p .header)))

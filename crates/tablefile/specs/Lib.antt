@@ -1,0 +1,2 @@
+-- What this crate shows.
+pub mod RoundTrips
