@@ -7,19 +7,19 @@ use native.Mathlib.Omega.{arith}
 use lib.ListN.{length, getD, take, length-append, length-map}
 use lib.Seq.{take-append-seam}
 use Rattle.transducer.specs.Limits.{mostOutputs, mostCode}
-use Rattle.transducer.specs.Transition.{InputWord, OutputWord, at, letter, writtenBy}
+use Rattle.transducer.specs.Transition.{InputWord, OutputWord, at, letter, writtenBy, bytesOf, wordOf}
 use Rattle.transducer.specs.Valid.{Valid}
 use Rattle.transducer.specs.Paths.{reads, writes}
 use Rattle.transducer.specs.declared.InputCode.{InputCode}
 use Rattle.transducer.specs.declared.OutputCode.{OutputCode}
 use Rattle.transducer.specs.declared.Transducer.{Transducer}
 use Rattle.transducer.proofs.SizeLaws.{length-written}
-use Rattle.pathwords.specs.Words.{bytesOf, codesOf, wordOf, Numbers}
+use Rattle.pathwords.specs.Words.{codesOf, Numbers}
 use Rattle.words.specs.Put.{put}
 
 -- an input word's numbers give the word back
 pub word-codes : (x : InputWord) → wordOf (codesOf x) ≡ x
-unfolding wordOf codesOf
+unfolding codesOf
 word-codes [] = refl
 word-codes (c ∷ x) = rw (word-codes x)
 
@@ -34,7 +34,6 @@ unfolding codesOf
 length-codes x = length-map x (λ (c : InputCode). c .0)
 
 pub length-bytes : (y : OutputWord) → length (bytesOf y) ≡ length y
-unfolding bytesOf
 length-bytes y = length-map y (λ (c : OutputCode). c .0)
 
 -- what is put at the front of a buffer is read back there

@@ -9,7 +9,7 @@ use lib.Seq.{sets}
 use Rattle.fields.specs.Byte.{byteFault}
 use Rattle.fields.specs.Letters.{letterL, recordEnd}
 use Rattle.transducer.specs.Limits.{mostOutputs, mostCode}
-use Rattle.transducer.specs.Transition.{OutputWord, outside, outputAt, writtenBy}
+use Rattle.transducer.specs.Transition.{OutputWord, outside, outputAt, writtenBy, bytesOf}
 use Rattle.transducer.specs.Valid.{Used}
 use Rattle.transducer.specs.declared.OutputCode.{OutputCode}
 use Rattle.transducer.specs.declared.Transition.{Transition}
@@ -21,7 +21,7 @@ use Rattle.tablereader.specs.declared.Outcome.{Outcome}
 use Rattle.tablereader.specs.declared.Outcome.the-variants.{Taken}
 use Rattle.tablereader.specs.declared.record.Number.{Number}
 use Rattle.tablereader.proofs.Checks.{value-high}
-use Rattle.tablewriter.specs.File.{fieldsOf, recordBytes, numbersOf, transitionBytes}
+use Rattle.tablewriter.specs.File.{fieldsOf, recordBytes, transitionBytes}
 use Rattle.tablefile.proofs.Pieces.{opened, closed, number-there, opened-back, closed-back, number-back, first-passes}
 use Rattle.tablefile.proofs.TakenLaws.{then-taken, taken-passes}
 use Rattle.tablefile.proofs.Filled.{sets-more, filled, getD-firsts, filled-firsts, firsts-filled}
@@ -66,13 +66,13 @@ module _ (text : List ℕ) where
     read : readOutputs (length y) text at i 0 output ≡ record { fault = 0; output = sets output i y }
     follows : drop (at + 4 * length y) text ≡ rest
 
-  outputs-read : (at i : ℕ) (output : List OutputCode) (y : OutputWord) (rest : List ℕ) → Codes y → drop at text ≡ fieldsOf (numbersOf y) ++ rest
+  outputs-read : (at i : ℕ) (output : List OutputCode) (y : OutputWord) (rest : List ℕ) → Codes y → drop at text ≡ fieldsOf (bytesOf y) ++ rest
       → OutputsRead at i output y rest
   unfolding readOutputs fieldsOf flatMap firstOf
   outputs-read at i output [] rest c e = let here : at + 4 * 0 ≡ at = omega arith in record { read = refl; follows = rw here e }
   outputs-read at i output (b ∷ y) rest c e =
       let first = c 0 (omega arith) in
-      let f = number-there text at 1 mostCode (b .0) (at + 4) (numbersOf y) rest refl (first .0) (first .1) (omega arith) e in
+      let f = number-there text at 1 mostCode (b .0) (at + 4) (bytesOf y) rest refl (first .0) (first .1) (omega arith) e in
       let others = outputs-read (at + 4) (suc i) (set output i b) y rest (λ j h. c (suc j) (omega arith)) (f .follows) in
       let place : at + 4 * suc (length y) ≡ at + 4 + 4 * length y = omega arith in
       record {
@@ -90,7 +90,7 @@ module _ (text : List ℕ) where
     size : length word ≡ k
     stored : readOutputs k text at i fault output .output ≡ sets output i word
     passes : fault ≡ 0
-    bytes : drop at text ≡ fieldsOf (numbersOf word) ++ rest
+    bytes : drop at text ≡ fieldsOf (bytesOf word) ++ rest
 
   outputs-back : (k at i fault : ℕ) (output : List OutputCode) (rest : List ℕ) → readOutputs k text at i fault output .fault ≡ 0
       → drop (at + 4 * k) text ≡ fieldsOf [] ++ rest → OutputsBack k at i fault output rest
@@ -109,7 +109,7 @@ module _ (text : List ℕ) where
         size = ap suc (others .size);
         stored = others .stored ∙ sets-more output i (record { 0 = r .value }) (others .word);
         passes = p .0;
-        bytes = number-back text at 1 mostCode (at + 4) (numbersOf (others .word)) rest refl (q .0) (others .bytes);
+        bytes = number-back text at 1 mostCode (at + 4) (bytesOf (others .word)) rest refl (q .0) (others .bytes);
       }
 
   module _ (n : ℕ) where
@@ -127,7 +127,7 @@ module _ (text : List ℕ) where
         let from = u .used .from-state in
         let to = u .used .to-state in
         let more = recordEnd ∷ rest in
-        let y = numbersOf (writtenBy v) in
+        let y = bytesOf (writtenBy v) in
         let end = at + 17 + 4 * v .count in
         let o = opened text at letterL (at + 1) (v .from ∷ v .to ∷ v .input .0 ∷ v .count ∷ y) rest refl e in
         let f = number-there text (at + 1) 0 (n - 1) (v .from) (at + 5) (v .to ∷ v .input .0 ∷ v .count ∷ y) more (omega arith) (omega arith) (omega arith) (omega arith) (o .follows) in
@@ -166,7 +166,7 @@ module _ (text : List ℕ) where
         let p₆ = first-passes (byteFault text end recordEnd) [] (p₅ .1) in
         let c = closed-back text end (end + 1) refl (p₆ .0) in
         let w = outputs-back (count .value) (at + 17) 0 0 noCodes more (p₅ .0) c in
-        let y = numbersOf (w .word) in
+        let y = bytesOf (w .word) in
         let k = number-back text (at + 13) 0 mostOutputs (at + 17) y more (omega arith) (p₄ .0) (w .bytes) in
         let h = number-back text (at + 9) 0 mostCode (at + 13) (count .value ∷ y) more (omega arith) (p₃ .0) k in
         let g = number-back text (at + 5) 0 (n - 1) (at + 9) (input .value ∷ count .value ∷ y) more (omega arith) (p₂ .0) h in
@@ -185,7 +185,7 @@ module _ (text : List ℕ) where
         rw (w .stored) (rw (w .size) at (firsts-filled noCode noCode mostOutputs (w .word) (omega (arith, w .size))))
         in
         opened-back text at letterL (at + 1) (from .value ∷ to .value ∷ input .value ∷ count .value ∷ y) rest refl (p .0) f
-        ∙ ap (λ (x : OutputWord). recordBytes letterL (from .value ∷ to .value ∷ input .value ∷ count .value ∷ numbersOf x) ++ rest) (sym written)
+        ∙ ap (λ (x : OutputWord). recordBytes letterL (from .value ∷ to .value ∷ input .value ∷ count .value ∷ bytesOf x) ++ rest) (sym written)
 
     -- ---- all transitions
 

@@ -7,12 +7,12 @@ use native.Mathlib.Numerals.{add-one}
 use Rattle.fields.specs.Field.{columns}
 use Rattle.fields.specs.Number.{columnsOf}
 use Rattle.transducer.specs.StateSet.{has, In}
-use Rattle.transducer.specs.Transition.{OutputWord, at, outputAt, firsts}
+use Rattle.transducer.specs.Transition.{OutputWord, at, outputAt, firsts, bytesOf}
 use Rattle.transducer.specs.declared.OutputCode.{OutputCode}
 use Rattle.transducer.specs.declared.StateSet.{StateSet}
 use Rattle.transducer.specs.declared.Transition.{Transition}
 use Rattle.transducer.specs.declared.Transducer.{Transducer}
-use Rattle.tablewriter.specs.File.{fieldsOf, recordBytes, stateAt, statesBelow, statesOf, sizeOf, stateBytes, numbersOf, transitionBytes, transitionBytesBelow, headerBytes, writeOf}
+use Rattle.tablewriter.specs.File.{fieldsOf, recordBytes, stateAt, statesBelow, statesOf, sizeOf, stateBytes, transitionBytes, transitionBytesBelow, headerBytes, writeOf}
 use Rattle.fields.specs.Letters.{letterT, letterS, letterF, recordEnd}
 use Rattle.tablewriter.proofs.PutsLaws.{Grows}
 
@@ -37,12 +37,12 @@ pub transitions-grow : (t : Transducer) → Grows (λ l. transitionBytesBelow t 
 unfolding transitionBytesBelow
 transitions-grow t = firsts-grow transitionBytes (at t)
 
-codes-fields : (y : OutputWord) → flatMap (λ (c : OutputCode). columnsOf columns (c .0)) y ≡ fieldsOf (numbersOf y)
+codes-fields : (y : OutputWord) → flatMap (λ (c : OutputCode). columnsOf columns (c .0)) y ≡ fieldsOf (bytesOf y)
 unfolding fieldsOf flatMap
 codes-fields [] = refl
 codes-fields (c ∷ y) = rw (codes-fields y)
 
-pub outputs-grow : (v : Transition) → Grows (λ j. fieldsOf (numbersOf (firsts j (outputAt v)))) (λ j. columnsOf columns (outputAt v j .0))
+pub outputs-grow : (v : Transition) → Grows (λ j. fieldsOf (bytesOf (firsts j (outputAt v)))) (λ j. columnsOf columns (outputAt v j .0))
 outputs-grow v = simp codes-fields at (firsts-grow (λ (c : OutputCode). columnsOf columns (c .0)) (outputAt v))
 
 -- ---- what is put of one state

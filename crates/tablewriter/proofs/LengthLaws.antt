@@ -11,14 +11,14 @@ use Rattle.fields.specs.Number.{columnsOf}
 use Rattle.fields.proofs.Columns.{length-columns}
 use Rattle.transducer.specs.Limits.{mostStates, mostOutputs}
 use Rattle.transducer.specs.StateSet.{pick, has, In}
-use Rattle.transducer.specs.Transition.{at, firsts, writtenBy}
+use Rattle.transducer.specs.Transition.{at, firsts, writtenBy, bytesOf}
 use Rattle.transducer.specs.Valid.{Valid}
 use Rattle.transducer.specs.declared.OutputCode.{OutputCode}
 use Rattle.transducer.specs.declared.StateSet.{StateSet}
 use Rattle.transducer.specs.declared.Transition.{Transition}
 use Rattle.transducer.specs.declared.Transducer.{Transducer}
 use Rattle.transducer.proofs.SizeLaws.{length-written}
-use Rattle.tablewriter.specs.File.{fieldsOf, recordBytes, stateAt, statesBelow, statesOf, sizeOf, stateBytes, numbersOf, transitionBytes, transitionBytesBelow, outputsBelow, allOutputs, headerBytes, writeOf}
+use Rattle.tablewriter.specs.File.{fieldsOf, recordBytes, stateAt, statesBelow, statesOf, sizeOf, stateBytes, transitionBytes, transitionBytesBelow, outputsBelow, allOutputs, headerBytes, writeOf}
 use Rattle.fields.specs.Letters.{letterT, letterS, letterF, letterL, recordEnd, mostBytes}
 use Rattle.tablewriter.proofs.FileLaws.{transitions-grow}
 
@@ -83,8 +83,8 @@ length-states letter (q ∷ qs) =
 length-transition : (v : Transition) → length (transitionBytes v) ≡ 18 + 4 * v .count
 unfolding transitionBytes
 length-transition v =
-    let codes : length (numbersOf (writtenBy v)) ≡ v .count = length-map (writtenBy v) (λ (c : OutputCode). c .0) ∙ length-written v in
-    omega (arith, length-record letterL (v .from ∷ v .to ∷ v .input .0 ∷ v .count ∷ numbersOf (writtenBy v)))
+    let codes : length (bytesOf (writtenBy v)) ≡ v .count = length-map (writtenBy v) (λ (c : OutputCode). c .0) ∙ length-written v in
+    omega (arith, length-record letterL (v .from ∷ v .to ∷ v .input .0 ∷ v .count ∷ bytesOf (writtenBy v)))
 
 length-transitions : (t : Transducer) (n : ℕ) → length (transitionBytesBelow t n) ≡ 18 * n + 4 * outputsBelow t n
 unfolding outputsBelow transitionBytesBelow firsts flatMap

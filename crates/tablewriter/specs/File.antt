@@ -1,6 +1,6 @@
 -- The bytes of a table file (document 01, "The file"), record by record: `T`, an `S` for each start state, an `F` for each final state, an `L` for
 -- each transition.
-use mathlib.Core.List.{List, [], _∷_, _++_, map, flatMap}
+use mathlib.Core.List.{List, [], _∷_, _++_, flatMap}
 use Prim.Native.Nat.{ℕ, zero, suc, _+_}
 use lib.ListN.{length}
 use Rattle.fields.specs.Field.{columns}
@@ -8,8 +8,7 @@ use Rattle.fields.specs.Letters.{letterT, letterS, letterF, letterL, recordEnd}
 use Rattle.fields.specs.Number.{columnsOf}
 use Rattle.transducer.specs.Limits.{mostStates}
 use Rattle.transducer.specs.StateSet.{pick, has}
-use Rattle.transducer.specs.Transition.{OutputWord, at, firsts, writtenBy}
-use Rattle.transducer.specs.declared.OutputCode.{OutputCode}
+use Rattle.transducer.specs.Transition.{bytesOf, at, firsts, writtenBy}
 use Rattle.transducer.specs.declared.StateSet.{StateSet}
 use Rattle.transducer.specs.declared.Transition.{Transition}
 use Rattle.transducer.specs.declared.Transducer.{Transducer}
@@ -49,13 +48,9 @@ stateBytes letter states = flatMap (λ q. recordBytes letter (q ∷ [])) states
 
 -- ---- transitions
 
--- the codes of an output word as numbers
-abbrev pub numbersOf : OutputWord → List ℕ
-numbersOf y = map (λ (c : OutputCode). c .0) y
-
 -- the record of a transition: the states that it leaves and enters, its input, the count of its outputs, and the outputs
 unfoldable pub transitionBytes : Transition → List ℕ
-transitionBytes v = recordBytes letterL (v .from ∷ v .to ∷ v .input .0 ∷ v .count ∷ numbersOf (writtenBy v))
+transitionBytes v = recordBytes letterL (v .from ∷ v .to ∷ v .input .0 ∷ v .count ∷ bytesOf (writtenBy v))
 
 -- a record for each of the transitions below n
 unfoldable pub transitionBytesBelow : Transducer → ℕ → List ℕ

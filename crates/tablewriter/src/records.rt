@@ -5,9 +5,9 @@ ghost use Prim.Native.Nat.{_≤_};
 ghost use Rattle.fields.specs.Field.{columns};
 ghost use Rattle.fields.specs.Number.{columnsOf};
 ghost use Rattle.transducer.specs.Limits.{mostOutputs};
-ghost use Rattle.transducer.specs.Transition.{writtenBy};
+ghost use Rattle.transducer.specs.Transition.{writtenBy, bytesOf};
 ghost use Rattle.transducer.specs.Valid.{Valid};
-ghost use Rattle.tablewriter.specs.File.{fieldsOf, stateAt, statesOf, stateBytes, numbersOf, transitionBytes, transitionBytesBelow, headerBytes, writeOf};
+ghost use Rattle.tablewriter.specs.File.{fieldsOf, stateAt, statesOf, stateBytes, transitionBytes, transitionBytesBelow, headerBytes, writeOf};
 ghost use Rattle.tablewriter.specs.Puts.{Room, Puts};
 use crate::size;
 use transducer::StateSet;
@@ -111,8 +111,8 @@ fn put_transition(out: &mut [u8], at: usize, v: Transition) -> usize
 // The fields of the output codes of v.
 fn put_outputs(out: &mut [u8], start: usize, v: Transition) -> usize
     requires { ⌜ v .count ≤ mostOutputs ⌝ }
-    requires { ⌜ Room (now out) start (fieldsOf (numbersOf (writtenBy v))) ⌝ }
-    ensures { λ r. ⌜ Puts (now (out .entry)) start (fieldsOf (numbersOf (writtenBy v))) (now (out .exit)) r ⌝ }
+    requires { ⌜ Room (now out) start (fieldsOf (bytesOf (writtenBy v))) ⌝ }
+    ensures { λ r. ⌜ Puts (now (out .entry)) start (fieldsOf (bytesOf (writtenBy v))) (now (out .exit)) r ⌝ }
 {
     let count = v.count as usize;
     let mut at = start;

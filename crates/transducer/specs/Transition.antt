@@ -1,5 +1,5 @@
 -- One transition: what it reads and what it writes (document 000, definition 3.5, and document 01, "Codes and tables").
-use mathlib.Core.List.{List, [], _∷_, _++_}
+use mathlib.Core.List.{List, [], _∷_, _++_, map}
 use Prim.Native.Nat.{ℕ, zero, suc}
 use lib.ListN.{getD}
 use Rattle.transducer.specs.declared.InputCode.{InputCode}
@@ -13,6 +13,14 @@ InputWord = List InputCode
 
 abbrev pub OutputWord : Type 0
 OutputWord = List OutputCode
+
+-- the input word whose codes are these numbers, as they stand in a buffer
+abbrev pub wordOf : List ℕ → InputWord
+wordOf numbers = map (λ (n : ℕ). record { 0 = n }) numbers
+
+-- the numbers of an output word's codes, as they stand in a buffer
+abbrev pub bytesOf : OutputWord → List ℕ
+bytesOf y = map (λ (c : OutputCode). c .0) y
 
 -- what the code reads past the end of the transitions
 abbrev pub outside : Transition

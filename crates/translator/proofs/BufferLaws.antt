@@ -7,10 +7,9 @@ use native.Mathlib.Numerals.{add-one}
 use native.Mathlib.Omega.{arith}
 use lib.ListN.{length, drop, set, length-map}
 use lib.Seq.{sets, sets-eq, set-comm}
-use Rattle.transducer.specs.Transition.{OutputWord, firsts, outputAt}
+use Rattle.transducer.specs.Transition.{OutputWord, firsts, outputAt, bytesOf}
 use Rattle.transducer.specs.declared.Transition.{Transition}
 use Rattle.transducer.proofs.SizeLaws.{length-firsts}
-use Rattle.translator.specs.Words.{bytesOf}
 
 -- an output word has as many bytes as codes
 pub length-bytes : (y : OutputWord) → length (bytesOf y) ≡ length y

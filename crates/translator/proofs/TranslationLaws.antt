@@ -12,7 +12,7 @@ use lib.Dec.{eqb, leb}
 use lib.ListN.{length, drop, getD}
 use Rattle.transducer.specs.Limits.{mostCode}
 use Rattle.transducer.specs.StateSet.{pick}
-use Rattle.transducer.specs.Transition.{OutputWord}
+use Rattle.transducer.specs.Transition.{OutputWord, wordOf, bytesOf}
 use Rattle.transducer.specs.Valid.{validOf}
 use Rattle.transducer.specs.Paths.{Relates, Functional}
 use Rattle.transducer.specs.Alike.{Alike}
@@ -20,9 +20,8 @@ use Rattle.transducer.specs.declared.Transducer.{Transducer}
 use Rattle.transducer.proofs.Bools.{and-both, all-of}
 use Rattle.transducer.proofs.AlikeLaws.{alike-equivalent}
 use Rattle.wordsearch.specs.Limits.{mostWord, mostWritten}
-use Rattle.wordsearch.specs.Nodes.{wordOf}
 use Rattle.translator.specs.Numbers.{numberOf, lengthOf}
-use Rattle.translator.specs.Words.{codeAt, codesOf, refusalOf, bytesOf}
+use Rattle.translator.specs.Words.{codeAt, codesOf, refusalOf}
 use Rattle.translator.specs.Translated.{Outcome, Translated}
 use Rattle.translator.specs.declared.Translation.{Translation}
 use Rattle.translator.specs.declared.Translation.the-variants.{Written, Invalid, WordTooLong, NoInputCode, Unread, BufferTooShort}

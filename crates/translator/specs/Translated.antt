@@ -4,13 +4,12 @@ use mathlib.Core.List.{List, _++_}
 use mathlib.Core.Logic.{_≢_}
 use Prim.Native.Nat.{ℕ, _≤_, _<_}
 use lib.ListN.{length, drop}
-use Rattle.transducer.specs.Transition.{OutputWord}
+use Rattle.transducer.specs.Transition.{OutputWord, wordOf, bytesOf}
 use Rattle.transducer.specs.Paths.{Relates}
 use Rattle.transducer.specs.declared.Transducer.{Transducer}
 use Rattle.wordsearch.specs.Limits.{mostWritten}
-use Rattle.wordsearch.specs.Nodes.{wordOf}
 use Rattle.translator.specs.Numbers.{numberOf, lengthOf}
-use Rattle.translator.specs.Words.{refusalOf, bytesOf}
+use Rattle.translator.specs.Words.{refusalOf}
 use Rattle.translator.specs.declared.Translation.{Translation}
 
 module _ (t : Transducer) (input out₀ out : List ℕ) (r : Translation) where

@@ -1,12 +1,11 @@
--- The words that the translator takes, and the bytes of an output word.
+-- The words that the translator takes.
 use mathlib.Core.Bool.{Bool, _&&_}
-use mathlib.Core.List.{List, map}
+use mathlib.Core.List.{List}
 use Prim.Native.Nat.{ℕ}
 use lib.Dec.{leb}
 use lib.ListN.{length, getD}
 use Rattle.transducer.specs.Limits.{mostCode}
 use Rattle.transducer.specs.StateSet.{pick}
-use Rattle.transducer.specs.Transition.{OutputWord}
 use Rattle.transducer.specs.Valid.{allBelow, validOf}
 use Rattle.transducer.specs.declared.Transducer.{Transducer}
 use Rattle.wordsearch.specs.Limits.{mostWord}
@@ -22,7 +21,3 @@ codesOf input = allBelow (length input) (codeAt input)
 -- the refusal of a transducer or a word before any search: 8, 9 or 10, in this order, or 0 where there is none
 unfoldable pub refusalOf : Transducer → List ℕ → ℕ
 refusalOf t input = pick (validOf t) (pick (leb (length input) mostWord) (pick (codesOf input) 0 10) 9) 8
-
--- the bytes of an output word
-abbrev pub bytesOf : OutputWord → List ℕ
-bytesOf = map (λ c. c .0)

@@ -13,12 +13,12 @@ use lib.ListN.{length, getD, drop, length-map, List·getD-map, drop-of-length-le
 use lib.Seq.{drop-cons}
 use Rattle.transducer.specs.Limits.{mostStates}
 use Rattle.transducer.specs.StateSet.{has}
-use Rattle.transducer.specs.Transition.{InputWord, letter}
+use Rattle.transducer.specs.Transition.{InputWord, letter, wordOf}
 use Rattle.transducer.specs.declared.InputCode.{InputCode}
 use Rattle.transducer.specs.declared.Transition.{Transition}
 use Rattle.transducer.specs.declared.Transducer.{Transducer}
 use Rattle.wordsearch.specs.Limits.{mostNodes}
-use Rattle.wordsearch.specs.Nodes.{wordOf, positionOf, stateOf, Moves, Ends}
+use Rattle.wordsearch.specs.Nodes.{positionOf, stateOf, Moves, Ends}
 use Rattle.wordsearch.specs.Answers.{NodeOf}
 
 -- the word has as many codes as there are bytes

@@ -1,6 +1,6 @@
 -- The nodes of the search: a position in the input word and a state, as the number position * 32 + state.
 use mathlib.Core.Path.{_≡_}
-use mathlib.Core.List.{List, _++_, map}
+use mathlib.Core.List.{_++_}
 use Prim.Native.Nat.{ℕ, _+_, _/_, _%_, _<_}
 use lib.ListN.{length, drop}
 use Rattle.transducer.specs.Limits.{mostStates}
@@ -8,10 +8,6 @@ use Rattle.transducer.specs.StateSet.{In}
 use Rattle.transducer.specs.Transition.{InputWord, at, readBy}
 use Rattle.transducer.specs.declared.Transition.{Transition}
 use Rattle.transducer.specs.declared.Transducer.{Transducer}
-
--- the input word whose codes are these bytes
-abbrev pub wordOf : List ℕ → InputWord
-wordOf = map (λ b. record { 0 = b })
 
 -- a node's position, and its state
 abbrev pub positionOf : ℕ → ℕ

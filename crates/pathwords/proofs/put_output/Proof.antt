@@ -5,10 +5,9 @@ use borrow.Author.Needs.{needs}
 use native.Mathlib.Omega.{arith}
 use lib.ListN.{length, length-set}
 use lib.Seq.{sets}
-use Rattle.transducer.specs.Transition.{firsts, outputAt, writtenBy}
+use Rattle.transducer.specs.Transition.{firsts, outputAt, writtenBy, bytesOf}
 use Rattle.transducer.specs.Valid.{codeAt}
 use Rattle.transducer.proofs.SizeLaws.{length-written}
-use Rattle.pathwords.specs.Words.{bytesOf}
 use Rattle.pathwords.proofs.WordLaws.{length-bytes}
 use Rattle.pathwords.proofs.WritingLaws.{put-sets, sets-more, bytes-firsts}
 use Rattle.pathwords.proofs.put_output.Statement.{statement}

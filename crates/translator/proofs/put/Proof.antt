@@ -5,8 +5,7 @@ use native.Mathlib.Omega.{arith}
 use borrow.Author.Needs.{needs}
 use lib.ListN.{length, length-set}
 use lib.Seq.{sets}
-use Rattle.transducer.specs.Transition.{firsts, outputAt}
-use Rattle.translator.specs.Words.{bytesOf}
+use Rattle.transducer.specs.Transition.{firsts, outputAt, bytesOf}
 use Rattle.translator.proofs.BufferLaws.{put-none, put-more}
 use Rattle.translator.proofs.put.Statement.{statement}
 use Rattle.translator.proofs.put.Tie as tie

@@ -4,10 +4,9 @@ use Prim.Native.Nat.{_-_, _≤_}
 use native.Mathlib.Omega.{arith}
 use lib.ListN.{length, getD}
 use lib.Seq.{sets}
-use Rattle.transducer.specs.Transition.{at, writtenBy}
+use Rattle.transducer.specs.Transition.{at, writtenBy, bytesOf}
 use Rattle.wordsearch.specs.Answers.{Traced}
 use Rattle.wordsearch.proofs.TraceLaws.{Stepped, traced-once, traced-end, traced-step, stepped-length}
-use Rattle.translator.specs.Words.{bytesOf}
 use Rattle.translator.proofs.BufferLaws.{sets-front, sets-back}
 use Rattle.translator.proofs.write.Statement.{statement}
 use Rattle.translator.proofs.write.Tie as tie

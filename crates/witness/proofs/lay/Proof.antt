@@ -7,7 +7,7 @@ use native.Mathlib.Omega.{arith}
 use lib.ListN.{length}
 use Rattle.transducer.specs.Limits.{mostOutputs}
 use Rattle.transducer.specs.Paths.{writes}
-use Rattle.pathwords.specs.Words.{bytesOf}
+use Rattle.transducer.specs.Transition.{bytesOf}
 use Rattle.pathwords.proofs.WordLaws.{length-writes, length-bytes}
 use Rattle.witness.specs.Walk.{walkOf}
 use Rattle.witness.specs.Sides.{sideOf, Front}
@@ -63,7 +63,8 @@ written : (c : tie.After-output)
 written c =
     let s = side-of c in
     let o = rw (front (s .side .ensures)) at (c .output .ensures) in
-    record { count = o .0 ∙ sym (length-bytes _); stores = o .1; short = omega (arith, few-codes s, o .0) }
+    let y = writes (start s .args .t) (Side s) in
+    record { count = o .0 ∙ sym (length-bytes y); stores = o .1; short = omega (arith, few-codes s, o .0) }
 
 cast-t16 : tie.Need-cast-t16
 cast-t16 c = search needs

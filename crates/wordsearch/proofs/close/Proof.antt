@@ -13,7 +13,8 @@ use Rattle.worklist.specs.Search.{Working}
 use Rattle.worklist.proofs.Findings.{lengths, at-most, inside, exact}
 use Rattle.worklist.proofs.Stages.{working-more}
 use Rattle.wordsearch.specs.Limits.{mostNodes}
-use Rattle.wordsearch.specs.Nodes.{wordOf, Leads, Ends}
+use Rattle.wordsearch.specs.Nodes.{Leads, Ends}
+use Rattle.transducer.specs.Transition.{wordOf}
 use Rattle.wordsearch.specs.Answers.{Answered}
 use Rattle.wordsearch.proofs.MoveLaws.{ends-true, ends-false}
 use Rattle.wordsearch.proofs.AnswerLaws.{hit, miss}

@@ -9,7 +9,8 @@ use Rattle.worklist.specs.Search.{Scanned}
 use Rattle.worklist.proofs.Findings.{lengths, at-most, inside}
 use Rattle.worklist.proofs.Stages.{scanned-none, scanned-skip, scanned-visit, expanded}
 use Rattle.wordsearch.specs.Limits.{mostNodes}
-use Rattle.wordsearch.specs.Nodes.{wordOf, Leads}
+use Rattle.wordsearch.specs.Nodes.{Leads}
+use Rattle.transducer.specs.Transition.{wordOf}
 use Rattle.wordsearch.proofs.MoveLaws.{moves-once, answered-node, answered-none}
 use Rattle.wordsearch.proofs.expand.Statement.{statement}
 use Rattle.wordsearch.proofs.expand.Tie as tie

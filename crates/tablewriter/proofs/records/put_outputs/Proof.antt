@@ -2,8 +2,8 @@
 use Prim.Native.Nat.{_≤_, _-_}
 use native.Mathlib.Omega.{arith}
 use borrow.Author.Needs.{needs}
-use Rattle.transducer.specs.Transition.{outputAt, firsts}
-use Rattle.tablewriter.specs.File.{fieldsOf, numbersOf}
+use Rattle.transducer.specs.Transition.{outputAt, firsts, bytesOf}
+use Rattle.tablewriter.specs.File.{fieldsOf}
 use Rattle.tablewriter.specs.Puts.{Puts}
 use Rattle.tablewriter.proofs.PutsLaws.{puts-length, turn-none, turn-room, turn, turns-done}
 use Rattle.tablewriter.proofs.FileLaws.{outputs-grow}
@@ -11,7 +11,7 @@ use Rattle.tablewriter.proofs.records.put_outputs.Statement.{statement}
 use Rattle.tablewriter.proofs.records.put_outputs.Tie as tie
 
 abbrev Inv-loop : tie.InvT-loop
-Inv-loop out₀ start v count at₀ j₀ out at j = (j ≤ count) × Puts out₀ start (fieldsOf (numbersOf (firsts j (outputAt v)))) out at
+Inv-loop out₀ start v count at₀ j₀ out at j = (j ≤ count) × Puts out₀ start (fieldsOf (bytesOf (firsts j (outputAt v)))) out at
 
 abbrev μ-loop : tie.MeasureT-loop
 μ-loop out₀ start v count at₀ j₀ out at j = count - j

@@ -2,8 +2,8 @@
 use mathlib.Core.List.{[], _∷_}
 use borrow.Author.Needs.{needs}
 use denote.Ref.{now}
-use Rattle.transducer.specs.Transition.{writtenBy}
-use Rattle.tablewriter.specs.File.{fieldsOf, numbersOf, transitionBytes}
+use Rattle.transducer.specs.Transition.{writtenBy, bytesOf}
+use Rattle.tablewriter.specs.File.{fieldsOf, transitionBytes}
 use Rattle.fields.specs.Letters.{letterL, recordEnd}
 use Rattle.tablewriter.proofs.PutsLaws.{Left, left-all, left-room, left-next, left-none}
 use Rattle.tablewriter.proofs.FileLaws.{record-parts}
@@ -13,7 +13,7 @@ use Rattle.tablewriter.proofs.records.put_transition.Tie as tie
 all-left : (s : tie.Start)
     → let v = s .args .v in
     Left (now (s .args .out)) (s .args .at) (transitionBytes v) (now (s .args .out)) (s .args .at)
-    ((letterL ∷ fieldsOf (v .from ∷ v .to ∷ v .input .0 ∷ v .count ∷ [])) ∷ fieldsOf (numbersOf (writtenBy v)) ∷ (recordEnd ∷ []) ∷ [])
+    ((letterL ∷ fieldsOf (v .from ∷ v .to ∷ v .input .0 ∷ v .count ∷ [])) ∷ fieldsOf (bytesOf (writtenBy v)) ∷ (recordEnd ∷ []) ∷ [])
 unfolding transitionBytes
 all-left s = left-all _ (record-parts _ _ _ _ _ _) (s .pre .1)
 
