@@ -67,7 +67,7 @@ count-most (true ∷ l) = omega (arith, count-most l)
 count-most (false ∷ l) = omega (arith, count-most l)
 
 -- two sets that hold the same are the same
-same-pairs : (s r : PairSet) → length (s .member) ≡ mostPairs → length (r .member) ≡ mostPairs
+pub same-pairs : (s r : PairSet) → length (s .member) ≡ mostPairs → length (r .member) ≡ mostPairs
     → ((p q : ℕ) → hasPair s p q ≡ hasPair r p q) → s ≡ r
 same-pairs s r l k e =
     ap (λ (m : List Bool). let z : PairSet = record { member = m } in z)
@@ -80,7 +80,7 @@ same-pairs s r l k e =
 -- ---- the answer
 
 -- two flags that are true together are the same
-same-flag : (a b : Bool) → (a ≡ true → b ≡ true) → (b ≡ true → a ≡ true) → a ≡ b
+pub same-flag : (a b : Bool) → (a ≡ true → b ≡ true) → (b ≡ true → a ≡ true) → a ≡ b
 same-flag true b f g = sym (f refl)
 same-flag false true f g = g refl
 same-flag false false f g = refl

@@ -1,7 +1,6 @@
 -- Laws of the steps from a pair, by their labels: those in which the left side takes one transition, alone (its label is the last of a row) or beside
 -- another; and those in which it rests. Assumes nothing.
 use mathlib.Core.Path.{_≡_, refl, sym, ap, _∙_}
-use mathlib.Core.List.{List}
 use mathlib.Core.Logic.{_≢_}
 use Prim.Native.Nat.{ℕ, _+_, _-_, _*_, _≤_, _<_}
 use native.Mathlib.Omega.{arith}
@@ -11,7 +10,7 @@ use Rattle.transducer.specs.Valid.{Valid}
 use Rattle.transducer.specs.Walks.{inputOf, Edge, Move}
 use Rattle.transducer.specs.declared.Transducer.{Transducer}
 use Rattle.pairsearch.specs.Numbers.{mostPairs, pairOf, firstOf, secondOf, noTransition, sides, labelOf, stepOf, Moves}
-use Rattle.pairsearch.specs.Confined.{Goes, LeftSide}
+use Rattle.pairsearch.specs.Confined.{LeftSide}
 use Rattle.pairsearch.specs.Confined.LeftSide.{moves, rests}
 use Rattle.pairsearch.proofs.StepLaws.{pair-first, pair-second, both-label, left-label, right-label, Labelled, labelled}
 use Rattle.pairsearch.proofs.StepLaws.Labelled.{by-both, by-left, by-right}
@@ -77,11 +76,10 @@ module _ {t : Transducer} (valid : Valid t) where
           record { edge = rw q b; same = rw q (i′ ∙ sym i); enters = sym f ∙ f′ }
 
   -- and none beside a transition that is not in use
-  pub side-past : {allowed : List ℕ} {u base input to k v : ℕ} → LeftSide t u base input to → base + t .count ≤ k → k < base + noTransition
-      → Goes t allowed u k v → ⊥
-  side-past {base = base} {k = k} s h h′ g =
+  pub side-past : {u base input to k : ℕ} (v : ℕ) → LeftSide t u base input to → base + t .count ≤ k → k < base + noTransition → Moves t u k v → ⊥
+  side-past {base = base} {k = k} v s h h′ move =
       let e : k ≡ base + (k - base) = omega arith in
-      omega (arith, side-only s (omega arith) (rw e at (g .moves)) .edge .used)
+      omega (arith, side-only s (omega arith) (rw e at move) .edge .used)
 
   -- a transition that reads nothing steps alone
   pub left-moves : (u : ℕ) {l p : ℕ} → Edge t l (firstOf u) p → inputOf t l ≡ 0 → Moves t u (labelOf l noTransition) (pairOf p (secondOf u))
@@ -110,8 +108,8 @@ module _ {t : Transducer} (valid : Valid t) where
   in-row-edge (paired a n e) = a
 
   -- between the rows of the transitions in use and the steps in which the left side rests there is no step
-  pub no-row : {allowed : List ℕ} {u k v : ℕ} → t .count * sides ≤ k → k < labelOf noTransition 0 → Goes t allowed u k v → ⊥
-  no-row {u = u} {k = k} {v = v} h h′ g = go (labelled t u k v (g .moves))
+  pub no-row : (u : ℕ) {k : ℕ} (v : ℕ) → t .count * sides ≤ k → k < labelOf noTransition 0 → Moves t u k v → ⊥
+  no-row u {k} v h h′ move = go (labelled t u k v move)
     where
       go : Labelled t u k v → ⊥
       go (by-both l m e a b i n) = omega (arith, a .used, edge-number b)
@@ -119,8 +117,8 @@ module _ {t : Transducer} (valid : Valid t) where
       go (by-right m e f b i) = omega arith
 
   -- and none after these
-  pub label-low : {allowed : List ℕ} {u k v : ℕ} → Goes t allowed u k v → k < labelOf noTransition noTransition
-  label-low {u = u} {k = k} {v = v} g = go (labelled t u k v (g .moves))
+  pub label-low : (u k v : ℕ) → Moves t u k v → k < labelOf noTransition noTransition
+  label-low u k v move = go (labelled t u k v move)
     where
       go : Labelled t u k v → k < labelOf noTransition noTransition
       go (by-both l m e a b i n) = omega (arith, edge-number a, edge-number b)

@@ -14,7 +14,7 @@ use Rattle.transducer.specs.declared.Transition.{Transition}
 use Rattle.transducer.specs.declared.Transducer.{Transducer}
 use Rattle.tablewriter.specs.File.{fieldsOf, recordBytes, stateAt, statesBelow, statesOf, sizeOf, stateBytes, transitionBytes, transitionBytesBelow, headerBytes, writeOf}
 use Rattle.fields.specs.Letters.{letterT, letterS, letterF, recordEnd}
-use Rattle.tablewriter.proofs.PutsLaws.{Grows}
+use Rattle.tablewriter.proofs.TurnLaws.{Grows}
 
 module _ {A : Type 0} (f : A → List ℕ) where
   pub flatMap-append : (xs ys : List A) → flatMap f (xs ++ ys) ≡ flatMap f xs ++ flatMap f ys

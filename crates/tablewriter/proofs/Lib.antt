@@ -1,5 +1,5 @@
 -- Laws of the definitions, for the crates above.
-pub mod PutsLaws
+pub mod TurnLaws
 pub mod FileLaws
 pub mod LengthLaws
 pub mod Determined

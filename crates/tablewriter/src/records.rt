@@ -1,5 +1,5 @@
 // The records of a table file, from a byte up to the whole file. Each function writes its bytes from the place `at` and returns the place behind them
-// (`Puts` of specs/Puts.antt), so that the next one goes on there.
+// (`Puts` of `words`), so that the next one goes on there.
 ghost use mathlib.Core.List.{[], _∷_};
 ghost use Prim.Native.Nat.{_≤_};
 ghost use Rattle.fields.specs.Field.{columns};
@@ -8,7 +8,7 @@ ghost use Rattle.transducer.specs.Limits.{mostOutputs};
 ghost use Rattle.transducer.specs.Transition.{writtenBy, bytesOf};
 ghost use Rattle.transducer.specs.Valid.{Valid};
 ghost use Rattle.tablewriter.specs.File.{fieldsOf, stateAt, statesOf, stateBytes, transitionBytes, transitionBytesBelow, headerBytes, writeOf};
-ghost use Rattle.tablewriter.specs.Puts.{Room, Puts};
+ghost use Rattle.words.specs.Puts.{Room, Puts};
 use crate::size;
 use transducer::StateSet;
 use transducer::Transducer;

@@ -48,7 +48,7 @@ same-answer : (r r′ : Translation) → numberOf r ≡ numberOf r′ → length
 same-answer r r′ n k = sym (answer-is r) ∙ rw (n, k) (answer-is r′)
 
 -- with a refusal the length is 0
-refused-length : (r : Translation) → numberOf r ≢ 0 → lengthOf r ≡ 0
+pub refused-length : (r : Translation) → numberOf r ≢ 0 → lengthOf r ≡ 0
 refused-length (Written n) h = absurd (h refl)
 refused-length BufferTooShort h = refl
 refused-length Invalid h = refl

@@ -141,7 +141,7 @@ returns : tie.Need-returns Inv-loop μ-loop
 returns c =
     let a = c .before .before .before .before .before .before .before .before in
     scanned-skip (c .before .loop .inv .0)
-    (λ j v h₁ h₂ g. side-past (a .pre .0 .valid) (a .pre .1) (omega (arith, c .loop-test .left)) h₂ g)
+    (λ j v h₁ h₂ g. side-past (a .pre .0 .valid) v (a .pre .1) (omega (arith, c .loop-test .left)) h₂ (g .moves))
 
 pub beside-spec : {M : Type 1} → statement M
 beside-spec =

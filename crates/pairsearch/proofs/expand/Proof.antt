@@ -103,9 +103,9 @@ returns c =
     let r = c .before .before .before .before .before .before .before .before .before .before .before .before .before .before .before .before .before .before .before .before .before .pre in
     expanded
     (scanned-join (r .place)
-    (scanned-skip (c .before .before .before .before .before .before .before .before .before .before .before .before .before .before .loop .inv .0) (λ k v h₁ h₂ g. no-row (r .valid) (omega (arith, c .before .before .before .before .before .before .before .before .before .before .before .before .before .loop-test .left)) h₂ g))
+    (scanned-skip (c .before .before .before .before .before .before .before .before .before .before .before .before .before .before .loop .inv .0) (λ k v h₁ h₂ g. no-row (r .valid) _ v (omega (arith, c .before .before .before .before .before .before .before .before .before .before .before .before .before .loop-test .left)) h₂ (g .moves)))
     (c .before .before .before .before .before .before .before .before .beside .ensures))
-    (λ k v g. label-low (r .valid) g)
+    (λ k v g. label-low (r .valid) _ k v (g .moves))
 
 pub expand-spec : {M : Type 1} → statement M
 expand-spec =

@@ -12,7 +12,7 @@ use Rattle.transducer.specs.Valid.{Tested, Shaped, validOf}
 use Rattle.transducer.specs.declared.Transducer.{Transducer}
 use Rattle.transducer.proofs.Facts.{valid-exactly}
 use Rattle.tablewriter.specs.File.{writeOf}
-use Rattle.tablewriter.specs.Puts.{Puts}
+use Rattle.words.specs.Puts.{Puts}
 use Rattle.tablewriter.specs.Writing.{inCase, Wrote}
 use Rattle.tablewriter.specs.declared.Writing.the-variants.{Written, Invalid, BufferTooShort}
 use Rattle.tablewriter.proofs.write.Statement.{statement}

@@ -4,8 +4,9 @@ use native.Mathlib.Omega.{arith}
 use borrow.Author.Needs.{needs}
 use Rattle.transducer.specs.Transition.{outputAt, firsts, bytesOf}
 use Rattle.tablewriter.specs.File.{fieldsOf}
-use Rattle.tablewriter.specs.Puts.{Puts}
-use Rattle.tablewriter.proofs.PutsLaws.{puts-length, turn-none, turn-room, turn, turns-done}
+use Rattle.words.specs.Puts.{Puts}
+use Rattle.words.proofs.PutsLaws.{puts-length}
+use Rattle.tablewriter.proofs.TurnLaws.{turn-none, turn-room, turn, turns-done}
 use Rattle.tablewriter.proofs.FileLaws.{outputs-grow}
 use Rattle.tablewriter.proofs.records.put_outputs.Statement.{statement}
 use Rattle.tablewriter.proofs.records.put_outputs.Tie as tie

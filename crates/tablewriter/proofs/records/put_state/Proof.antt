@@ -9,7 +9,7 @@ use Rattle.fields.specs.Field.{columns}
 use Rattle.fields.specs.Number.{columnsOf}
 use Rattle.tablewriter.specs.File.{stateAt, stateBytes}
 use Rattle.fields.specs.Letters.{recordEnd}
-use Rattle.tablewriter.proofs.PutsLaws.{Left, puts-none, left-all, left-room, left-next, left-none}
+use Rattle.words.proofs.PutsLaws.{Left, puts-none, left-all, left-room, left-next, left-none}
 use Rattle.tablewriter.proofs.FileLaws.{state-parts, state-in, state-out}
 use Rattle.tablewriter.proofs.records.put_state.Statement.{statement}
 use Rattle.tablewriter.proofs.records.put_state.Tie as tie

@@ -3,8 +3,9 @@ use Prim.Native.Nat.{_≤_, _-_}
 use native.Mathlib.Omega.{arith}
 use Rattle.transducer.specs.Limits.{mostStates}
 use Rattle.tablewriter.specs.File.{statesBelow, stateBytes}
-use Rattle.tablewriter.specs.Puts.{Puts}
-use Rattle.tablewriter.proofs.PutsLaws.{puts-length, turn-none, turn-room, turn, turns-done}
+use Rattle.words.specs.Puts.{Puts}
+use Rattle.words.proofs.PutsLaws.{puts-length}
+use Rattle.tablewriter.proofs.TurnLaws.{turn-none, turn-room, turn, turns-done}
 use Rattle.tablewriter.proofs.FileLaws.{states-grow}
 use Rattle.tablewriter.proofs.records.put_states.Statement.{statement}
 use Rattle.tablewriter.proofs.records.put_states.Tie as tie

@@ -3,8 +3,9 @@ use Prim.Native.Nat.{_≤_, _-_}
 use native.Mathlib.Omega.{arith}
 use borrow.Author.Needs.{needs}
 use Rattle.tablewriter.specs.File.{transitionBytesBelow}
-use Rattle.tablewriter.specs.Puts.{Puts}
-use Rattle.tablewriter.proofs.PutsLaws.{puts-length, turn-none, turn-room, turn, turns-done}
+use Rattle.words.specs.Puts.{Puts}
+use Rattle.words.proofs.PutsLaws.{puts-length}
+use Rattle.tablewriter.proofs.TurnLaws.{turn-none, turn-room, turn, turns-done}
 use Rattle.tablewriter.proofs.FileLaws.{transitions-grow}
 use Rattle.tablewriter.proofs.records.put_transitions.Statement.{statement}
 use Rattle.tablewriter.proofs.records.put_transitions.Tie as tie

@@ -1,0 +1,156 @@
+// The functionality test (document 01: the verdict): whether each input word has one output at most, and if not, a word with two. Its contract is
+// `Decided` of specs/Decided.antt. The walks that it compares, and why they are enough, are in the crate `candidates`.
+ghost use mathlib.Core.Path.{_≡_};
+ghost use mathlib.Core.Bool.{true};
+ghost use Prim.Native.Nat.{_≤_, _*_, _-_};
+ghost use lib.ListN.{length};
+ghost use Rattle.transducer.specs.Valid.{validOf};
+ghost use Rattle.pairs.specs.UsefulPairs.{UsefulPairsOf};
+ghost use Rattle.witness.specs.Sides.{Candidate};
+ghost use Rattle.witness.specs.Walk.{walkOf, Same};
+ghost use Rattle.witness.specs.Showing.{buffersOf, Showing};
+ghost use Rattle.functionality.specs.Decided.{fullOf, longEnough, noCounts, refusalVerdict, UsefulCount, Decided};
+use candidates::Found;
+use pairsearch::PAIRS;
+use transducer::Transducer;
+use transducer::validity;
+use witness::CODES;
+use witness::Counts;
+use witness::STEPS;
+
+// Document 01's verdict, single or split, or its refusal.
+pub enum Outcome {
+    Functional,
+    NotFunctional,
+    BufferTooShort,
+    Invalid,
+}
+
+// The outcome; how many useful pairs there are (document 01: u); and how many items of a witness stand in each buffer, none unless the
+// transducer is not functional.
+pub struct Verdict {
+    pub outcome: Outcome,
+    pub useful: u16,
+    pub counts: Counts,
+}
+
+// Whether t is functional. If it is not, an input word, two accepting paths that read it, and their outputs, which differ, stand at the front of the
+// five buffers.
+pub fn decide(
+    t: Transducer,
+    word: &mut [u8],
+    path_a: &mut [u16],
+    path_b: &mut [u16],
+    output_x: &mut [u8],
+    output_y: &mut [u8],
+) -> Verdict
+    ensures { λ r. ⌜
+        Decided t
+        (buffersOf (now (word .entry)) (now («path_a» .entry)) (now («path_b» .entry)) (now («output_x» .entry)) (now («output_y» .entry)))
+        (buffersOf (now (word .exit)) (now («path_a» .exit)) (now («path_b» .exit)) (now («output_x» .exit)) (now («output_y» .exit)))
+        r
+        ⌝ }
+{
+    if !validity::valid(t) {
+        return refuse(Outcome::Invalid);
+    }
+    if !full(
+        word.len(),
+        path_a.len(),
+        path_b.len(),
+        output_x.len(),
+        output_y.len(),
+    ) {
+        return refuse(Outcome::BufferTooShort);
+    }
+    examine(t, word, path_a, path_b, output_x, output_y)
+}
+
+// Whether buffers of these lengths are lent in full.
+fn full(word: usize, path_a: usize, path_b: usize, output_x: usize, output_y: usize) -> bool
+    ensures { λ r. ⌜ r ≡ longEnough word «path_a» «path_b» «output_x» «output_y» ⌝ }
+{
+    (STEPS <= word)
+        & (STEPS <= path_a)
+        & (STEPS <= path_b)
+        & (CODES <= output_x)
+        & (CODES <= output_y)
+}
+
+// A refusal: no u, and nothing in the buffers.
+fn refuse(outcome: Outcome) -> Verdict
+    ensures { λ r. ⌜ r ≡ refusalVerdict outcome ⌝ }
+{
+    let counts = none();
+    Verdict {
+        outcome,
+        useful: 0,
+        counts,
+    }
+}
+
+// No items in any buffer.
+fn none() -> Counts
+    ensures { λ r. ⌜ r ≡ noCounts ⌝ }
+{
+    Counts {
+        word: 0,
+        path_a: 0,
+        path_b: 0,
+        output_x: 0,
+        output_y: 0,
+    }
+}
+
+// The verdict on a transducer that keeps the rules, with buffers in full.
+fn examine(
+    t: Transducer,
+    word: &mut [u8],
+    path_a: &mut [u16],
+    path_b: &mut [u16],
+    output_x: &mut [u8],
+    output_y: &mut [u8],
+) -> Verdict
+    requires { ⌜ validOf t ≡ true ⌝ }
+    requires { ⌜ fullOf (buffersOf (now word) (now «path_a») (now «path_b») (now «output_x») (now «output_y»)) ≡ true ⌝ }
+    ensures { λ r. ⌜
+        Decided t
+        (buffersOf (now (word .entry)) (now («path_a» .entry)) (now («path_b» .entry)) (now («output_x» .entry)) (now («output_y» .entry)))
+        (buffersOf (now (word .exit)) (now («path_a» .exit)) (now («path_b» .exit)) (now («output_x» .exit)) (now («output_y» .exit)))
+        r
+        ⌝ }
+{
+    let mut into = [0u16; PAIRS];
+    let mut into_step = [0u32; PAIRS];
+    let mut out = [0u16; PAIRS];
+    let mut out_step = [0u32; PAIRS];
+    let mut steps = [0u32; STEPS];
+    let found = pairs::ways(t, &mut into, &mut into_step, &mut out, &mut out_step);
+    let useful = found.count;
+    match candidates::search(t, found, &into, &into_step, &out, &out_step, &mut steps) {
+        Found::Nothing => {
+            let counts = none();
+            Verdict {
+                outcome: Outcome::Functional,
+                useful,
+                counts,
+            }
+        }
+        Found::At(start, end) => {
+            let counts = witness::show(
+                t,
+                &steps[start..end],
+                word,
+                path_a,
+                path_b,
+                output_x,
+                output_y,
+            );
+            Verdict {
+                outcome: Outcome::NotFunctional,
+                useful,
+                counts,
+            }
+        }
+    }
+}

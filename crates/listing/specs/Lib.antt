@@ -1,0 +1,2 @@
+-- What the contracts of `listing` cite: the records that the programs print, and how long they can be.
+pub mod Listing

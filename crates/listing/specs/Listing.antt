@@ -1,0 +1,118 @@
+-- What the programs print (document 01, "Writer and programs"): records like the file's, with fields six wide.
+use mathlib.Core.Bool.{Bool, cond}
+use mathlib.Core.List.{List, [], _∷_, _++_, flatMap}
+use Prim.Native.Nat.{ℕ, _≤_}
+use lib.ListN.{length}
+use Rattle.fields.specs.Number.{columnsOf}
+
+-- ---- a record
+
+-- how many columns a field has
+abbrev pub fieldWidth : ℕ
+fieldWidth = 6
+
+-- the numbers that a field holds are below it
+abbrev pub fieldLimit : ℕ
+fieldLimit = 1000000
+
+-- the byte that ends a record
+abbrev pub recordEnd : ℕ
+recordEnd = 10
+
+-- a record: its letter, its number fields and the byte that ends it
+unfoldable pub recordOf : ℕ → List ℕ → List ℕ
+recordOf letter numbers = letter ∷ flatMap (columnsOf fieldWidth) numbers ++ (recordEnd ∷ [])
+
+-- a record with a count and then the items
+unfoldable pub countedOf : ℕ → List ℕ → List ℕ
+countedOf letter items = recordOf letter (length items ∷ items)
+
+-- the letter of the verdict, `V`
+abbrev pub letterV : ℕ
+letterV = 86
+
+-- the letter of the input word, `W` (document 01: the cue)
+abbrev pub letterW : ℕ
+letterW = 87
+
+-- the letter of path A, `A`
+abbrev pub letterA : ℕ
+letterA = 65
+
+-- the letter of path B, `B`
+abbrev pub letterB : ℕ
+letterB = 66
+
+-- the letter of the output of A, and of a translation, `X`
+abbrev pub letterX : ℕ
+letterX = 88
+
+-- the letter of the output of B, `Y`
+abbrev pub letterY : ℕ
+letterY = 89
+
+-- the letter of a refusal, `R`
+abbrev pub letterR : ℕ
+letterR = 82
+
+-- ---- the listings
+
+-- the number of a verdict: 0 single, 1 split
+abbrev pub verdictNumber : Bool → ℕ
+verdictNumber split = cond split 1 0
+
+-- the records of a witness: the input word, path A, path B, the outputs of A and B, each a count and then the items
+unfoldable pub witnessListing : (w a b x y : List ℕ) → List ℕ
+witnessListing w a b x y = countedOf letterW w ++ countedOf letterA a ++ countedOf letterB b ++ countedOf letterX x ++ countedOf letterY y
+
+-- what the verdict program prints: `V` verdict and u; for split also the witness
+unfoldable pub verdictListing : Bool → ℕ → (w a b x y : List ℕ) → List ℕ
+verdictListing split u w a b x y = recordOf letterV (verdictNumber split ∷ u ∷ []) ++ cond split (witnessListing w a b x y) []
+
+-- what either program prints of a refusal: `R`, the number, the record number
+unfoldable pub refusalListing : ℕ → ℕ → List ℕ
+refusalListing number record-number = recordOf letterR (number ∷ record-number ∷ [])
+
+-- what the translating program prints of an output: one `X` record, a count and then the items
+unfoldable pub translationListing : List ℕ → List ℕ
+translationListing items = countedOf letterX items
+
+-- ---- how long they can be: 6 bytes for each number and 2 for each record
+
+-- a record of two numbers: 2 + 6 × 2
+abbrev pub pairBytes : ℕ
+pairBytes = 14
+
+-- the most items of an input word and of a path
+abbrev pub mostSteps : ℕ
+mostSteps = 2047
+
+-- the most items of an output: 8 for each step
+abbrev pub mostWritten : ℕ
+mostWritten = 16376
+
+-- the longest listing of a verdict: `V`, and five records with their counts and items, 14 + 5 × (2 + 6) + 6 × (3 × 2,047 + 2 × 16,376)
+abbrev pub mostVerdictBytes : ℕ
+mostVerdictBytes = 233412
+
+-- the most items of a translation
+abbrev pub mostTranslated : ℕ
+mostTranslated = 65528
+
+-- the longest listing of a translation: 2 + 6 × (1 + 65,528)
+abbrev pub mostTranslationBytes : ℕ
+mostTranslationBytes = 393176
+
+-- the items of a verdict are no more than document 01 has, and the buffer has room for the longest listing
+pub record VerdictRoom (w a b x y out : List ℕ) : Type 0 where
+  pub word : length w ≤ mostSteps
+  pub path-a : length a ≤ mostSteps
+  pub path-b : length b ≤ mostSteps
+  pub output-x : length x ≤ mostWritten
+  pub output-y : length y ≤ mostWritten
+  pub room : mostVerdictBytes ≤ length out
+
+-- the items of a translation are no more than document 01 has, and the buffer has room for the longest listing
+pub record TranslationRoom (items out : List ℕ) : Type 0 where
+  pub few : length items ≤ mostTranslated
+  pub room : mostTranslationBytes ≤ length out
