@@ -80,7 +80,7 @@ fn try_step(
     ensures { λ r. ⌜ Answers t (found .count) (now (steps .exit)) ((Useful t j → StepPasses t (linksOf (now (into .entry)) (now («into_step» .entry)) (now (out .entry)) (now («out_step» .entry))) i label j)) r ⌝ }
 {
     let set = found.set;
-    if !set.contains((j / 32) as u8, (j % 32) as u8) {
+    if !set.contains((j / limits::STATES) as u8, (j % limits::STATES) as u8) {
         return Found::Nothing;
     }
     let start = way::enter(into, into_step, i, steps);

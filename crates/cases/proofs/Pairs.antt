@@ -1,24 +1,20 @@
 -- How many useful pairs there are, from a list of them. Assumes nothing.
-use mathlib.Core.Path.{_≡_, refl, sym, ap, _∙_}
+use mathlib.Core.Path.{_≡_, refl, sym, _∙_}
 use mathlib.Core.Bool.{Bool, true, false, true≢false}
 use mathlib.Core.List.{List, [], _∷_}
-use mathlib.Core.Logic.{_↔_}
 use Prim.Native.Nat.{ℕ, _<_}
 use native.Mathlib.Decide.{ℕ-discrete}
 use native.Mathlib.Omega.{arith}
 use lib.ListN.{length, getD, set, replicate, length-set, length-replicate, getD-replicate}
 use lib.Seq.{getD-set-other}
-use Rattle.transducer.specs.Valid.{validOf}
 use Rattle.transducer.specs.Useful.{UsefulPair}
 use Rattle.transducer.specs.declared.Transducer.{Transducer}
 use Rattle.pairsearch.specs.Numbers.{mostPairs, pairOf, firstOf, secondOf}
 use Rattle.pairsearch.proofs.StepLaws.{pair-first, pair-second}
-use Rattle.pairs.specs.UsefulPairs.{hasPair, countTrue, UsefulPairsOf}
-use Rattle.pairs.specs.declared.Outcome.{Outcome}
-use Rattle.pairs.specs.declared.PairSet.{PairSet}
-use Rattle.pairs.specs.declared.UsefulPairs.{UsefulPairs}
-use Rattle.pairs.proofs.PairSetLaws.{has-pair, pair-low, useful-pairs-determined}
+use Rattle.pairs.specs.UsefulPairs.{hasPair, countTrue}
+use Rattle.pairs.proofs.PairSetLaws.{has-pair, pair-low}
 use Rattle.functionality.specs.Decided.{UsefulCount}
+use Rattle.functionality.proofs.DecidedLaws.{useful-count-unique}
 use Rattle.cases.proofs.Each.{Each, more, nothing}
 
 -- the flags of the pairs with these numbers
@@ -41,34 +37,16 @@ flags-only {S} (more {a = w} {list = pairs} s each) v h e = go (ℕ-discrete v w
     go (yes z) rest = rw z s
     go (no z) rest = rest (sym (getD-set-other (flagsOf pairs) w v true false z) ∙ e)
 
-module _ {t : Transducer} (valid : validOf t ≡ true) where
-  -- a set that has exactly the useful pairs has as many as any other
-  useful-once : (s : PairSet) → length (s .member) ≡ mostPairs → ((p q : ℕ) → (hasPair s p q ≡ true) ↔ UsefulPair t p q)
-      → {u : ℕ} → UsefulCount t u → u ≡ countTrue (s .member)
-  useful-once s l m {u} c =
-      ap (λ (r : UsefulPairs). r .count)
-      (useful-pairs-determined (found (c .set) (c .long) (c .members) (c .counted)) (found s l m refl))
-    where
-      found : (s : PairSet) → length (s .member) ≡ mostPairs → ((p q : ℕ) → (hasPair s p q ≡ true) ↔ UsefulPair t p q)
-          → {n : ℕ} → n ≡ countTrue (s .member) → UsefulPairsOf t (record { outcome = Outcome.Found; set = s; count = n })
-      found s l m e =
-          record {
-            number = rw valid;
-            members = λ _. m;
-            refused = λ z. absurd (true≢false (sym valid ∙ z));
-            counted = e;
-            long = l;
-          }
-
-  -- where each of these pairs is useful, and every useful pair is one of them, u is how many they are
-  pub useful-count : {pairs : List ℕ} → Each (λ v. UsefulPair t (firstOf v) (secondOf v)) pairs
-      → ((p q : ℕ) → UsefulPair t p q → hasPair (record { member = flagsOf pairs }) p q ≡ true)
-      → (u : ℕ) → UsefulCount t u → u ≡ countTrue (flagsOf pairs)
-  useful-count {pairs} each all u =
-      useful-once (record { member = flagsOf pairs }) (flags-long pairs) (λ p q. (useful p q, all p q))
-    where
-      useful : (p q : ℕ) → hasPair (record { member = flagsOf pairs }) p q ≡ true → UsefulPair t p q
-      useful p q h =
-          let low = pair-low (record { member = flagsOf pairs }) p q h in
-          rw (pair-first p q (low .1), pair-second p q (low .1)) at
-          (flags-only each (pairOf p q) (omega arith) (sym (has-pair (record { member = flagsOf pairs }) p q (low .0) (low .1)) ∙ h))
+-- where each of these pairs is useful, and every useful pair is one of them, u is how many they are
+pub useful-count : {t : Transducer} {pairs : List ℕ} → Each (λ v. UsefulPair t (firstOf v) (secondOf v)) pairs
+    → ((p q : ℕ) → UsefulPair t p q → hasPair (record { member = flagsOf pairs }) p q ≡ true)
+    → (u : ℕ) → UsefulCount t u → u ≡ countTrue (flagsOf pairs)
+useful-count {t} {pairs} each all u count =
+    useful-count-unique count
+    (record { set = record { member = flagsOf pairs }; long = flags-long pairs; members = λ p q. (useful p q, all p q); counted = refl })
+  where
+    useful : (p q : ℕ) → hasPair (record { member = flagsOf pairs }) p q ≡ true → UsefulPair t p q
+    useful p q h =
+        let low = pair-low (record { member = flagsOf pairs }) p q h in
+        rw (pair-first p q (low .1), pair-second p q (low .1)) at
+        (flags-only each (pairOf p q) (omega arith) (sym (has-pair (record { member = flagsOf pairs }) p q (low .0) (low .1)) ∙ h))

@@ -99,7 +99,7 @@ module _ (last : List ℕ) where
   pub useful-D : validOf (tableD last) ≡ true → (n : ℕ) → UsefulCount (tableD last) n → n ≡ 6
   unfolding flagsOf countTrue
   useful-D valid =
-      useful-count valid each-useful
+      useful-count each-useful
       (λ p q u.
       let one = from-start (u .one) in
       let other = from-start (u .other) in

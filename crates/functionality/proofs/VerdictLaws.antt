@@ -20,7 +20,7 @@ use Rattle.witness.specs.Sides.{mostSteps}
 use Rattle.witness.specs.Showing.{Buffers, Full, Shown, Showing}
 use Rattle.witness.specs.declared.Counts.{Counts}
 use Rattle.witness.proofs.ShowingLaws.{shown-within}
-use Rattle.functionality.specs.Decided.{longEnough, fullOf, refusalOf, numberOf, verdictOf, UsefulCount, noCounts, refusalVerdict, Decided}
+use Rattle.functionality.specs.Decided.{longEnough, fullOf, refusalOf, numberOf, verdictOf, UsefulCount, quietVerdict, Decided}
 use Rattle.functionality.specs.declared.Outcome.{Outcome}
 use Rattle.functionality.specs.declared.Outcome.the-variants.{Functional as Single, NotFunctional as Split, BufferTooShort, Invalid}
 use Rattle.functionality.specs.declared.Verdict.{Verdict}
@@ -59,7 +59,7 @@ full b h =
     }
 
 -- what is refused changes nothing
-pub refuses : (t : Transducer) (b : Buffers) (o : Outcome) → refusalOf t b ≡ numberOf o → numberOf o ≢ 0 → verdictOf o ≡ 0 → Decided t b b (refusalVerdict o)
+pub refuses : (t : Transducer) (b : Buffers) (o : Outcome) → refusalOf t b ≡ numberOf o → numberOf o ≢ 0 → verdictOf o ≡ 0 → Decided t b b (quietVerdict o 0)
 refuses t b o e n z =
     record {
       number = sym e;
@@ -89,7 +89,7 @@ pub showing-within : {t : Transducer} {n m : ℕ} {b b′ : Buffers} {c : Counts
 showing-within h s = record { lists = s .lists; shown = shown-within h (s .shown); counts = s .counts; filled = s .filled }
 
 module _ {t : Transducer} {b : Buffers} {u : ℕ} (none : refusalOf t b ≡ 0) (count : UsefulCount t u) where
-  pub decides-single : Functional t → Decided t b b (record { outcome = Single; useful = u; counts = noCounts })
+  pub decides-single : Functional t → Decided t b b (quietVerdict Single u)
   decides-single f =
       record {
         number = sym none;

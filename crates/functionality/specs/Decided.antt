@@ -63,9 +63,9 @@ pub record UsefulCount (t : Transducer) (u : ℕ) : Type 0 where
 abbrev pub noCounts : Counts
 noCounts = record { word = 0; «path_a» = 0; «path_b» = 0; «output_x» = 0; «output_y» = 0 }
 
--- a refusal: no u, and no items
-abbrev pub refusalVerdict : Outcome → Verdict
-refusalVerdict o = record { outcome = o; useful = 0; counts = noCounts }
+-- a verdict that shows nothing
+abbrev pub quietVerdict : Outcome → ℕ → Verdict
+quietVerdict o u = record { outcome = o; useful = u; counts = noCounts }
 
 -- from the transducer t and buffers that hold b the verdict is r, and the buffers are left with b′
 pub record Decided (t : Transducer) (b b′ : Buffers) (r : Verdict) : Type 0 where

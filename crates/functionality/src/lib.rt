@@ -2,14 +2,9 @@
 // `Decided` of specs/Decided.antt. The walks that it compares, and why they are enough, are in the crate `candidates`.
 ghost use mathlib.Core.Path.{_≡_};
 ghost use mathlib.Core.Bool.{true};
-ghost use Prim.Native.Nat.{_≤_, _*_, _-_};
-ghost use lib.ListN.{length};
 ghost use Rattle.transducer.specs.Valid.{validOf};
-ghost use Rattle.pairs.specs.UsefulPairs.{UsefulPairsOf};
-ghost use Rattle.witness.specs.Sides.{Candidate};
-ghost use Rattle.witness.specs.Walk.{walkOf, Same};
-ghost use Rattle.witness.specs.Showing.{buffersOf, Showing};
-ghost use Rattle.functionality.specs.Decided.{fullOf, longEnough, noCounts, refusalVerdict, UsefulCount, Decided};
+ghost use Rattle.witness.specs.Showing.{buffersOf};
+ghost use Rattle.functionality.specs.Decided.{fullOf, longEnough, quietVerdict, Decided};
 use candidates::Found;
 use pairsearch::PAIRS;
 use transducer::Transducer;
@@ -52,7 +47,7 @@ pub fn decide(
         ⌝ }
 {
     if !validity::valid(t) {
-        return refuse(Outcome::Invalid);
+        return quiet(Outcome::Invalid, 0);
     }
     if !full(
         word.len(),
@@ -61,7 +56,7 @@ pub fn decide(
         output_x.len(),
         output_y.len(),
     ) {
-        return refuse(Outcome::BufferTooShort);
+        return quiet(Outcome::BufferTooShort, 0);
     }
     examine(t, word, path_a, path_b, output_x, output_y)
 }
@@ -77,28 +72,20 @@ fn full(word: usize, path_a: usize, path_b: usize, output_x: usize, output_y: us
         & (CODES <= output_y)
 }
 
-// A refusal: no u, and nothing in the buffers.
-fn refuse(outcome: Outcome) -> Verdict
-    ensures { λ r. ⌜ r ≡ refusalVerdict outcome ⌝ }
+// A verdict that shows nothing in the buffers: a refusal, or a transducer that is functional.
+fn quiet(outcome: Outcome, useful: u16) -> Verdict
+    ensures { λ r. ⌜ r ≡ quietVerdict outcome useful ⌝ }
 {
-    let counts = none();
     Verdict {
         outcome,
-        useful: 0,
-        counts,
-    }
-}
-
-// No items in any buffer.
-fn none() -> Counts
-    ensures { λ r. ⌜ r ≡ noCounts ⌝ }
-{
-    Counts {
-        word: 0,
-        path_a: 0,
-        path_b: 0,
-        output_x: 0,
-        output_y: 0,
+        useful,
+        counts: Counts {
+            word: 0,
+            path_a: 0,
+            path_b: 0,
+            output_x: 0,
+            output_y: 0,
+        },
     }
 }
 
@@ -126,16 +113,8 @@ fn examine(
     let mut out_step = [0u32; PAIRS];
     let mut steps = [0u32; STEPS];
     let found = pairs::ways(t, &mut into, &mut into_step, &mut out, &mut out_step);
-    let useful = found.count;
     match candidates::search(t, found, &into, &into_step, &out, &out_step, &mut steps) {
-        Found::Nothing => {
-            let counts = none();
-            Verdict {
-                outcome: Outcome::Functional,
-                useful,
-                counts,
-            }
-        }
+        Found::Nothing => quiet(Outcome::Functional, found.count),
         Found::At(start, end) => {
             let counts = witness::show(
                 t,
@@ -148,7 +127,7 @@ fn examine(
             );
             Verdict {
                 outcome: Outcome::NotFunctional,
-                useful,
+                useful: found.count,
                 counts,
             }
         }

@@ -10,23 +10,23 @@ use Rattle.functionality.proofs.decide.Tie as tie
 valid-requires : tie.Need-valid-requires
 valid-requires c κs = search needs
 
-refuse-requires : tie.Need-refuse-requires
-refuse-requires c κs = search needs
+quiet-requires : tie.Need-quiet-requires
+quiet-requires c κs = search needs
 
 returns : tie.Need-returns
 returns c =
-    rw (c .refuse .ensures)
+    rw (c .quiet .ensures)
     (refuses _ _ _ (refusal-invalid _ _ (sym (c .before .before .valid .ensures .answer) ∙ not-true _ (c .before .if1 .taken))) (λ e. omega arith) refl)
 
 full-requires : tie.Need-full-requires
 full-requires c κs = search needs
 
-refuse-requires-2 : tie.Need-refuse-requires-2
-refuse-requires-2 c κs = search needs
+quiet-requires-2 : tie.Need-quiet-requires-2
+quiet-requires-2 c κs = search needs
 
 returns-2 : tie.Need-returns-2
 returns-2 c =
-    rw (c .refuse2 .ensures)
+    rw (c .quiet2 .ensures)
     (refuses _ _ _
     (refusal-short _ _ (sym (c .before .before .before .before .valid .ensures .answer) ∙ not-false _ (c .before .before .before .if1 .left))
     (sym (c .before .before .full .ensures) ∙ not-true _ (c .before .if2 .taken)))
@@ -61,10 +61,10 @@ decide-spec =
     tie.close
     (tie.spec
     valid-requires
-    refuse-requires
+    quiet-requires
     returns
     full-requires
-    refuse-requires-2
+    quiet-requires-2
     returns-2
     examine-requires
     same-length

@@ -47,8 +47,8 @@ search-requires c κs = search needs
 enum-told : tie.Need-enum-told
 enum-told c = search needs
 
-none-requires : tie.Need-none-requires
-none-requires c κs = search needs
+quiet-requires : tie.Need-quiet-requires
+quiet-requires c κs = search needs
 
 enum-known-start : tie.Need-enum-known-start
 enum-known-start c = search needs
@@ -76,7 +76,7 @@ returns : tie.Need-returns
 returns c =
     let a = c .before .before .before .before .before .before .before .before .before .before .before .before .before .before .before .before .before .before .before .before .before .before .before .before in
     let k = found-nothing _ _ _ (c .before .enum-told .given .1) (c .before .before .before .before .search .ensures) in
-    rw (c .none .ensures) (decides-single (refusal-none _ _ (a .pre .0) (a .pre .1)) (counted (a .pre .0) (c .before .before .before .before .before .before .before .before .before .before .before .before .before .before .ways .ensures .pairs)) k)
+    rw (c .quiet .ensures) (decides-single (refusal-none _ _ (a .pre .0) (a .pre .1)) (counted (a .pre .0) (c .before .before .before .before .before .before .before .before .before .before .before .before .before .before .ways .ensures .pairs)) k)
 
 same-length : tie.Need-same-length
 same-length c = search needs
@@ -115,7 +115,7 @@ examine-spec =
     slice-aggregate-search-5
     search-requires
     enum-told
-    none-requires
+    quiet-requires
     enum-known-start
     mul-show
     sub-show
