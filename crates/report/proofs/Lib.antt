@@ -1,0 +1,2 @@
+-- The laws of the reports.
+pub mod ReportLaws

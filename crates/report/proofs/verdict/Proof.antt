@@ -1,0 +1,192 @@
+-- `verdict` meets its contract: the counts of a judgement are within the buffers, which keep their lengths, so that the items can be listed, and there is
+-- room for them. Assumes nothing.
+use borrow.Author.Needs.{needs}
+use native.Mathlib.Nat.{sub-zero}
+use native.Mathlib.Omega.{arith}
+use denote.Ref.{now}
+use Rattle.witness.specs.Showing.{Buffers, buffersOf}
+use Rattle.engine.specs.Engine.{Judged}
+use Rattle.report.specs.Report.{lent}
+use Rattle.report.proofs.ReportLaws.{Few, Sized, lent-sized, judged-few, items-room, refused-report, verdict-report}
+use Rattle.report.proofs.verdict.Statement.{statement}
+use Rattle.report.proofs.verdict.Tie as tie
+
+-- the function's entry, seen from the place behind `judge`
+abbrev entry : tie.After-judge → tie.Start
+entry c = c .before .before .before .before .before .before .before .before
+
+-- what is left in the five buffers
+abbrev left : tie.After-judge → Buffers
+left c =
+    let last = c .judge .last .1 in
+    buffersOf (last .0) (last .1 .0) (last .1 .1 .0) (last .1 .1 .1 .0) (last .1 .1 .1 .1 .0)
+
+-- each keeps its length
+sized : (c : tie.After-judge) → Sized (left c)
+sized c =
+    let kept = c .judge .kept .1 in
+    record { word = kept .0; path-a = kept .1 .0; path-b = kept .1 .1 .0; output-x = kept .1 .1 .1 .0; output-y = kept .1 .1 .1 .1 .0 }
+
+judged : (c : tie.After-judge) → Judged (now (entry c .args .text)) lent (left c) (c .judge .result)
+unfolding lent
+judged c = c .judge .ensures
+
+few : (c : tie.After-judge) → Few (c .judge .result .counts)
+few c = judged-few (judged c) lent-sized (sized c)
+
+-- the place behind `judge`, seen from the place before each part of a buffer is lent, and from the call of `list_verdict`
+abbrev from-w : tie.After-word3 → tie.After-judge
+from-w c = c .before .before .before .before .before .before .before .before .before .before .before .before .before
+
+abbrev from-a : tie.After-path-a3 → tie.After-judge
+from-a c = from-w (c .before .before)
+
+abbrev from-b : tie.After-path-b3 → tie.After-judge
+from-b c = from-a (c .before .before)
+
+abbrev from-x : tie.After-output-x3 → tie.After-judge
+from-x c = from-b (c .before .before)
+
+abbrev from-y : tie.After-output-y3 → tie.After-judge
+from-y c = from-x (c .before .before)
+
+abbrev from-out : tie.After-list-verdict-arg6 → tie.After-judge
+from-out c = from-y (c .before .before)
+
+slice-aggregate-judge : tie.Need-slice-aggregate-judge
+slice-aggregate-judge c = search needs
+
+slice-aggregate-judge-2 : tie.Need-slice-aggregate-judge-2
+slice-aggregate-judge-2 c = search needs
+
+slice-aggregate-judge-3 : tie.Need-slice-aggregate-judge-3
+slice-aggregate-judge-3 c = search needs
+
+slice-aggregate-judge-4 : tie.Need-slice-aggregate-judge-4
+slice-aggregate-judge-4 c = search needs
+
+slice-aggregate-judge-5 : tie.Need-slice-aggregate-judge-5
+slice-aggregate-judge-5 c = search needs
+
+judge-requires : tie.Need-judge-requires
+judge-requires c κs = search needs
+
+list-refusal-requires : tie.Need-list-refusal-requires
+list-refusal-requires c κs = search needs
+
+same-length : tie.Need-same-length
+same-length c = search needs
+
+returns : tie.Need-returns
+returns c =
+    let answer = c .before .before .before .before .before .before .before .before .before .before in
+    refused-report (judged answer) (entry answer .pre) (c .before .before .before .before .if1 .taken) (c .before .before .list-refusal .ensures)
+
+cast-words : tie.Need-cast-words
+cast-words c = search needs
+
+cast-a : tie.Need-cast-a
+cast-a c = search needs
+
+cast-b : tie.Need-cast-b
+cast-b c = search needs
+
+cast-x : tie.Need-cast-x
+cast-x c = search needs
+
+cast-y : tie.Need-cast-y
+cast-y c = search needs
+
+sub-list-verdict : tie.Need-sub-list-verdict
+sub-list-verdict c = search needs
+
+part-list-verdict-start : tie.Need-part-list-verdict-start
+part-list-verdict-start c = search needs
+
+part-list-verdict-end : tie.Need-part-list-verdict-end
+part-list-verdict-end c = omega (arith, few (from-w c) .word)
+
+sub-list-verdict-2 : tie.Need-sub-list-verdict-2
+sub-list-verdict-2 c = search needs
+
+part-list-verdict-start-2 : tie.Need-part-list-verdict-start-2
+part-list-verdict-start-2 c = search needs
+
+part-list-verdict-end-2 : tie.Need-part-list-verdict-end-2
+part-list-verdict-end-2 c = omega (arith, few (from-a c) .path-a)
+
+sub-list-verdict-3 : tie.Need-sub-list-verdict-3
+sub-list-verdict-3 c = search needs
+
+part-list-verdict-start-3 : tie.Need-part-list-verdict-start-3
+part-list-verdict-start-3 c = search needs
+
+part-list-verdict-end-3 : tie.Need-part-list-verdict-end-3
+part-list-verdict-end-3 c = omega (arith, few (from-b c) .path-b)
+
+sub-list-verdict-4 : tie.Need-sub-list-verdict-4
+sub-list-verdict-4 c = search needs
+
+part-list-verdict-start-4 : tie.Need-part-list-verdict-start-4
+part-list-verdict-start-4 c = search needs
+
+part-list-verdict-end-4 : tie.Need-part-list-verdict-end-4
+part-list-verdict-end-4 c = omega (arith, few (from-x c) .output-x)
+
+sub-list-verdict-5 : tie.Need-sub-list-verdict-5
+sub-list-verdict-5 c = search needs
+
+part-list-verdict-start-5 : tie.Need-part-list-verdict-start-5
+part-list-verdict-start-5 c = search needs
+
+part-list-verdict-end-5 : tie.Need-part-list-verdict-end-5
+part-list-verdict-end-5 c = omega (arith, few (from-y c) .output-y)
+
+list-verdict-requires : tie.Need-list-verdict-requires
+list-verdict-requires c κs = let answer = from-out c in simp sub-zero (items-room (left answer) (few answer) (entry answer .pre))
+
+same-length-2 : tie.Need-same-length-2
+same-length-2 c = search needs
+
+returns-2 : tie.Need-returns-2
+returns-2 c =
+    let answer = from-out (c .before .before .before) in
+    let test = c .before .before .before .before .before .before .before .before .before .before .before .before .before .before .before .before .before .before .before .before in
+    verdict-report (judged answer) (entry answer .pre) (test .if1 .left) (sized answer) (simp sub-zero at (c .before .before .list-verdict .ensures))
+
+pub verdict-spec : {M : Type 1} → statement M
+verdict-spec =
+    tie.close
+    (tie.spec
+    slice-aggregate-judge
+    slice-aggregate-judge-2
+    slice-aggregate-judge-3
+    slice-aggregate-judge-4
+    slice-aggregate-judge-5
+    judge-requires
+    list-refusal-requires
+    same-length
+    returns
+    cast-words
+    cast-a
+    cast-b
+    cast-x
+    cast-y
+    sub-list-verdict
+    part-list-verdict-start
+    part-list-verdict-end
+    sub-list-verdict-2
+    part-list-verdict-start-2
+    part-list-verdict-end-2
+    sub-list-verdict-3
+    part-list-verdict-start-3
+    part-list-verdict-end-3
+    sub-list-verdict-4
+    part-list-verdict-start-4
+    part-list-verdict-end-4
+    sub-list-verdict-5
+    part-list-verdict-start-5
+    part-list-verdict-end-5
+    list-verdict-requires
+    same-length-2
+    returns-2)

@@ -1,0 +1,2 @@
+-- What the contracts of the reports cite.
+pub mod Report
