@@ -1,2 +1,3 @@
--- The laws of the reports.
+-- The laws behind the reports, and of their contracts: what is printed.
 pub mod ReportLaws
+pub mod PrintedLaws

@@ -1,4 +1,4 @@
--- What the engine answers is within the sizes of document 01, so that its listing has room, and the reports are as their contracts say. Assumes nothing.
+-- What the engine answers is within the sizes of document 01, so there is room for its listing; and what the reports put. Assumes nothing.
 use mathlib.Core.Path.{_≡_, sym, _∙_}
 use mathlib.Core.List.{List}
 use mathlib.Core.Logic.{_≢_, _⊎_, inl, inr}
@@ -25,7 +25,8 @@ use Rattle.functionality.proofs.DecidedLaws.{zero-or-one}
 use Rattle.engine.specs.Engine.{numberOf, Judged, FileTranslated}
 use Rattle.engine.specs.declared.Judgement.{Judgement}
 use Rattle.engine.specs.declared.FileTranslation.{FileTranslation}
-use Rattle.listing.specs.Listing.{verdictListing, refusalListing, translationListing, mostSteps, mostWritten, mostVerdictBytes, mostTranslated, mostTranslationBytes, VerdictRoom}
+use Rattle.listing.specs.Listing.{verdictListing, refusalListing, translationListing, VerdictRoom}
+use Rattle.listing.specs.Listing.{mostSteps, mostWritten, mostVerdictBytes, mostTranslated, mostTranslationBytes}
 use Rattle.listing.proofs.ListingLaws.{refusal-length, translation-length, verdict-listing-room}
 use Rattle.report.specs.Report.{lent, judgementListing, VerdictReport, lentOutput, answerListing, TranslationReport}
 
@@ -118,16 +119,28 @@ items-room {r} b few h =
       room = h;
     }
 
--- the listing of a judgement is put
+-- the listing of a judgement by its number
+module _ (r : Judgement) (b : Buffers) where
+  pub refusal-listed : r .number ≢ 0 → judgementListing r b ≡ refusalListing (r .number) (r .«record»)
+  unfolding judgementListing
+  refusal-listed k = rw (ne-eqb _ _ k)
+
+  pub verdict-listed : r .number ≡ 0
+      → judgementListing r b
+      ≡ verdictListing (r .split) (r .useful) (take (r .counts .word) (b .word)) (take (r .counts .«path_a») (b .path-a))
+      (take (r .counts .«path_b») (b .path-b)) (take (r .counts .«output_x») (b .output-x)) (take (r .counts .«output_y») (b .output-y))
+  unfolding judgementListing
+  verdict-listed k = rw (eq-eqb _ _ k)
+
+-- it is put
 module _ {f out₀ out : List ℕ} {b : Buffers} {r : Judgement} {n : ℕ} (h : Judged f lent b r) (room : mostVerdictBytes ≤ length out₀) where
   pub refused-report : r .number ≢ 0 → Puts out₀ 0 (refusalListing (r .number) (r .«record»)) out n → VerdictReport f out₀ out n
-  unfolding judgementListing
   refused-report k p =
       record {
         judgement = r;
         buffers = b;
         judged = h;
-        puts = rw (ne-eqb _ _ k) p;
+        puts = rw (refusal-listed r b k) p;
         fits = within (record { room = omega (arith, refusal-length (r .number) (r .«record»)) }) p;
       }
 
@@ -137,13 +150,12 @@ module _ {f out₀ out : List ℕ} {b : Buffers} {r : Judgement} {n : ℕ} (h : 
       (take (r .counts .«path_b») (b .path-b)) (take (r .counts .«output_x») (b .output-x)) (take (r .counts .«output_y») (b .output-y)))
       out n
       → VerdictReport f out₀ out n
-  unfolding judgementListing
   verdict-report k s p =
       record {
         judgement = r;
         buffers = b;
         judged = h;
-        puts = rw (eq-eqb _ _ k) p;
+        puts = rw (verdict-listed r b k) p;
         fits = within (verdict-listing-room (r .split) (r .useful) (items-room b (judged-few h lent-sized s) room)) p;
       }
 
@@ -169,30 +181,38 @@ translation-short {f} {q = q} h = go (ℕ-discrete (numberOf f) 0)
     go (yes t) = rw (h .taken t .answer) (output-short (h .taken t .translated))
     go (no n) = rw (h .refused n .0) (omega arith)
 
--- the listing of a translation is put
+-- the listing of a translation by its number
+module _ (q : FileTranslation) (output : List ℕ) where
+  pub refusal-answered : q .number ≢ 0 → answerListing q output ≡ refusalListing (q .number) (q .«record»)
+  unfolding answerListing
+  refusal-answered k = rw (ne-eqb _ _ k)
+
+  pub output-answered : q .number ≡ 0 → answerListing q output ≡ translationListing (take (q .length) output)
+  unfolding answerListing
+  output-answered k = rw (eq-eqb _ _ k)
+
+-- it is put
 module _ {f input out₀ output out : List ℕ} {q : FileTranslation} {n : ℕ} (h : FileTranslated f input lentOutput output q)
     (room : mostTranslationBytes ≤ length out₀)
   where
     pub refusal-report : q .number ≢ 0 → Puts out₀ 0 (refusalListing (q .number) (q .«record»)) out n → TranslationReport f input out₀ out n
-    unfolding answerListing
     refusal-report k p =
         record {
           answer = q;
           output = output;
           translated = h;
-          puts = rw (ne-eqb _ _ k) p;
+          puts = rw (refusal-answered q output k) p;
           fits = within (record { room = omega (arith, refusal-length (q .number) (q .«record»)) }) p;
         }
 
     pub output-report : q .number ≡ 0 → Puts out₀ 0 (translationListing (take (q .length) output)) out n → TranslationReport f input out₀ out n
-    unfolding answerListing
     output-report k p =
         let short = translation-short h in
         record {
           answer = q;
           output = output;
           translated = h;
-          puts = rw (eq-eqb _ _ k) p;
+          puts = rw (output-answered q output k) p;
           fits =
               within (record { room = omega (arith, translation-length (take (q .length) output), taken-most (q .length) output) }) p;
         }

@@ -1,2 +1,3 @@
--- What the contracts of the reports cite.
+-- What the contracts of the reports cite, and what they come to.
 pub mod Report
+pub mod Printed

@@ -30,8 +30,8 @@ judgementListing r b =
     (take (r .counts .«path_b») (b .path-b)) (take (r .counts .«output_x») (b .output-x)) (take (r .counts .«output_y») (b .output-y)))
     (refusalListing (r .number) (r .«record»))
 
--- from the bytes f of a file the buffer that held out₀ holds out: the listing of a judgement of f stands at its front, its n bytes fit, and the places
--- beyond hold what they held
+-- from the bytes f of a file the buffer that held out₀ holds out: the listing of a judgement of f stands at its front, its n bytes fit, and the
+-- places beyond hold what they held
 pub record VerdictReport (f out₀ out : List ℕ) (n : ℕ) : Type 0 where
   pub judgement : Judgement
   pub buffers : Buffers
@@ -47,8 +47,8 @@ answerListing q output = cond (eqb (q .number) 0) (translationListing (take (q .
 unfoldable pub lentOutput : List ℕ
 lentOutput = replicate mostTranslated 0
 
--- from the bytes f of a file and those of an input word the buffer that held out₀ holds out: the listing of a translation stands at its front, its n bytes
--- fit, and the places beyond hold what they held
+-- from the bytes f of a file and those of an input word the buffer that held out₀ holds out: the listing of a translation stands at its front, its n
+-- bytes fit, and the places beyond hold what they held
 pub record TranslationReport (f input out₀ out : List ℕ) (n : ℕ) : Type 0 where
   pub answer : FileTranslation
   pub output : List ℕ

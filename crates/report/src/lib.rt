@@ -1,5 +1,6 @@
 // What the two programs print, from the bytes that they read (document 01, "Writer and programs"): `verdict` judges a table file, `translation`
-// translates an input word by one. Both put the listing into a buffer. The contracts are the records of specs/Report.antt.
+// translates an input word by one. Both put the listing into a buffer. The contracts are the records of specs/Report.antt; what they come to, said of
+// the file and the word alone, is in specs/Printed.antt.
 ghost use Prim.Native.Nat.{_≤_};
 ghost use lib.ListN.{length};
 ghost use Rattle.listing.specs.Listing.{mostVerdictBytes, mostTranslationBytes};

@@ -1,5 +1,5 @@
-// The translating program (document 01, "Writer and programs"): the first 256 bytes of standard input are an input word, one code a byte, the first 13,203
-// bytes of the file `table` a table file; the listing of the word's output is printed. What is longer is thereby longer than any word or table file.
+// The translating program (document 01, "Writer and programs"): the first 256 bytes of standard input are an input word, one code a byte, and the
+// first 13,203 bytes of the file `table` are a table file; the listing of the translation is printed. A longer word or file is thereby still too long.
 ghost use Prim.Native.Nat.{_≤_};
 ghost use lib.ListN.{length};
 use libc::STDIN_FILENO;

@@ -1,5 +1,5 @@
 // The verdict program (document 01, "Writer and programs"): the first 13,203 bytes of standard input are judged as a table file, and the listing is
-// printed. A longer input is thereby longer than any table file, and refused.
+// printed. A longer input is thereby still too long.
 use libc::STDIN_FILENO;
 use libc::STDOUT_FILENO;
 use listing::VERDICT_BYTES;

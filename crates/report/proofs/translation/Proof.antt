@@ -24,7 +24,8 @@ unfolding lentOutput
 returns c =
     let answer = c .before .before .before .before .before .before in
     let start = answer .before .before .before .before .before in
-    refusal-report (answer .translate-file .ensures) (start .pre) (c .before .before .before .before .if1 .taken) (c .before .before .list-refusal .ensures)
+    refusal-report (answer .translate-file .ensures) (start .pre) (c .before .before .before .before .if1 .taken)
+    (c .before .before .list-refusal .ensures)
 
 sub-list-translation : tie.Need-sub-list-translation
 sub-list-translation c = search needs

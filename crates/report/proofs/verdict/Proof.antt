@@ -1,5 +1,5 @@
--- `verdict` meets its contract: the counts of a judgement are within the buffers, which keep their lengths, so that the items can be listed, and there is
--- room for them. Assumes nothing.
+-- `verdict` meets its contract: the buffers keep their lengths, so that what a judgement counts is within them and can be listed, and there is room
+-- for the listing. Assumes nothing.
 use borrow.Author.Needs.{needs}
 use native.Mathlib.Nat.{sub-zero}
 use native.Mathlib.Omega.{arith}
@@ -11,7 +11,7 @@ use Rattle.report.proofs.ReportLaws.{Few, Sized, lent-sized, judged-few
 use Rattle.report.proofs.verdict.Statement.{statement}
 use Rattle.report.proofs.verdict.Tie as tie
 
--- the function's entry, seen from the place behind `judge`
+-- the function's entry, seen from the place behind the call of `judge`
 abbrev entry : tie.After-judge → tie.Start
 entry c = c .before .before .before .before .before .before .before .before
 
@@ -34,23 +34,27 @@ judged c = c .judge .ensures
 few : (c : tie.After-judge) → Few (c .judge .result .counts)
 few c = judged-few (judged c) lent-sized (sized c)
 
--- the place behind `judge`, seen from the place before each part of a buffer is lent, and from the call of `list_verdict`
-abbrev from-w : tie.After-word3 → tie.After-judge
-from-w c = c .before .before .before .before .before .before .before .before .before .before .before .before .before
+-- the same, seen from where no refusal was found
+abbrev answer : tie.Else1 → tie.After-judge
+answer c = c .before .before .before .before .before .before
 
-abbrev from-a : tie.After-path-a3 → tie.After-judge
+-- that place, seen from the one before each part of a buffer is lent, and from the call of `list_verdict`
+abbrev from-w : tie.After-word3 → tie.Else1
+from-w c = c .before .before .before .before .before .before .before
+
+abbrev from-a : tie.After-path-a3 → tie.Else1
 from-a c = from-w (c .before .before)
 
-abbrev from-b : tie.After-path-b3 → tie.After-judge
+abbrev from-b : tie.After-path-b3 → tie.Else1
 from-b c = from-a (c .before .before)
 
-abbrev from-x : tie.After-output-x3 → tie.After-judge
+abbrev from-x : tie.After-output-x3 → tie.Else1
 from-x c = from-b (c .before .before)
 
-abbrev from-y : tie.After-output-y3 → tie.After-judge
+abbrev from-y : tie.After-output-y3 → tie.Else1
 from-y c = from-x (c .before .before)
 
-abbrev from-out : tie.After-list-verdict-arg6 → tie.After-judge
+abbrev from-out : tie.After-list-verdict-arg6 → tie.Else1
 from-out c = from-y (c .before .before)
 
 slice-aggregate-judge : tie.Need-slice-aggregate-judge
@@ -79,8 +83,8 @@ same-length c = search needs
 
 returns : tie.Need-returns
 returns c =
-    let answer = c .before .before .before .before .before .before .before .before .before .before in
-    refused-report (judged answer) (entry answer .pre) (c .before .before .before .before .if1 .taken) (c .before .before .list-refusal .ensures)
+    let judge = c .before .before .before .before .before .before .before .before .before .before in
+    refused-report (judged judge) (entry judge .pre) (c .before .before .before .before .if1 .taken) (c .before .before .list-refusal .ensures)
 
 cast-words : tie.Need-cast-words
 cast-words c = search needs
@@ -104,7 +108,7 @@ part-list-verdict-start : tie.Need-part-list-verdict-start
 part-list-verdict-start c = search needs
 
 part-list-verdict-end : tie.Need-part-list-verdict-end
-part-list-verdict-end c = omega (arith, few (from-w c) .word)
+part-list-verdict-end c = omega (arith, few (answer (from-w c)) .word)
 
 sub-list-verdict-2 : tie.Need-sub-list-verdict-2
 sub-list-verdict-2 c = search needs
@@ -113,7 +117,7 @@ part-list-verdict-start-2 : tie.Need-part-list-verdict-start-2
 part-list-verdict-start-2 c = search needs
 
 part-list-verdict-end-2 : tie.Need-part-list-verdict-end-2
-part-list-verdict-end-2 c = omega (arith, few (from-a c) .path-a)
+part-list-verdict-end-2 c = omega (arith, few (answer (from-a c)) .path-a)
 
 sub-list-verdict-3 : tie.Need-sub-list-verdict-3
 sub-list-verdict-3 c = search needs
@@ -122,7 +126,7 @@ part-list-verdict-start-3 : tie.Need-part-list-verdict-start-3
 part-list-verdict-start-3 c = search needs
 
 part-list-verdict-end-3 : tie.Need-part-list-verdict-end-3
-part-list-verdict-end-3 c = omega (arith, few (from-b c) .path-b)
+part-list-verdict-end-3 c = omega (arith, few (answer (from-b c)) .path-b)
 
 sub-list-verdict-4 : tie.Need-sub-list-verdict-4
 sub-list-verdict-4 c = search needs
@@ -131,7 +135,7 @@ part-list-verdict-start-4 : tie.Need-part-list-verdict-start-4
 part-list-verdict-start-4 c = search needs
 
 part-list-verdict-end-4 : tie.Need-part-list-verdict-end-4
-part-list-verdict-end-4 c = omega (arith, few (from-x c) .output-x)
+part-list-verdict-end-4 c = omega (arith, few (answer (from-x c)) .output-x)
 
 sub-list-verdict-5 : tie.Need-sub-list-verdict-5
 sub-list-verdict-5 c = search needs
@@ -140,19 +144,19 @@ part-list-verdict-start-5 : tie.Need-part-list-verdict-start-5
 part-list-verdict-start-5 c = search needs
 
 part-list-verdict-end-5 : tie.Need-part-list-verdict-end-5
-part-list-verdict-end-5 c = omega (arith, few (from-y c) .output-y)
+part-list-verdict-end-5 c = omega (arith, few (answer (from-y c)) .output-y)
 
 list-verdict-requires : tie.Need-list-verdict-requires
-list-verdict-requires c κs = let answer = from-out c in simp sub-zero (items-room (left answer) (few answer) (entry answer .pre))
+list-verdict-requires c κs = let judge = answer (from-out c) in simp sub-zero (items-room (left judge) (few judge) (entry judge .pre))
 
 same-length-2 : tie.Need-same-length-2
 same-length-2 c = search needs
 
 returns-2 : tie.Need-returns-2
 returns-2 c =
-    let answer = from-out (c .before .before .before) in
-    let test = c .before .before .before .before .before .before .before .before .before .before .before .before .before .before .before .before .before .before .before .before in
-    verdict-report (judged answer) (entry answer .pre) (test .if1 .left) (sized answer) (simp sub-zero at (c .before .before .list-verdict .ensures))
+    let test = from-out (c .before .before .before) in
+    let judge = answer test in
+    verdict-report (judged judge) (entry judge .pre) (test .if1 .left) (sized judge) (simp sub-zero at (c .before .before .list-verdict .ensures))
 
 pub verdict-spec : {M : Type 1} → statement M
 verdict-spec =
