@@ -56,7 +56,12 @@ fn try_start(
 ) -> Found
     requires { ⌜ Ready t found (linksOf (now into) (now «into_step») (now out) (now «out_step»)) (now steps) ⌝ }
     requires { ⌜ Useful t v × PairIn (t .starts) v ⌝ }
-    ensures { λ r. ⌜ Answers t (found .count) (now (steps .exit)) (StartPasses t (linksOf (now (into .entry)) (now («into_step» .entry)) (now (out .entry)) (now («out_step» .entry))) v) r ⌝ }
+    ensures { λ r. ⌜
+        Answers t (found .count) (now (steps .exit))
+        (StartPasses t
+        (linksOf (now (into .entry)) (now («into_step» .entry)) (now (out .entry)) (now («out_step» .entry)))
+        v) r
+        ⌝ }
 {
     let end = way::leave(out, out_step, v, steps, MIDDLE);
     compare(t, steps, MIDDLE, end, found.count)
@@ -77,7 +82,12 @@ fn try_step(
 ) -> Found
     requires { ⌜ Ready t found (linksOf (now into) (now «into_step») (now out) (now «out_step»)) (now steps) ⌝ }
     requires { ⌜ Useful t i × (j < mostPairs) × Moves t i label j ⌝ }
-    ensures { λ r. ⌜ Answers t (found .count) (now (steps .exit)) ((Useful t j → StepPasses t (linksOf (now (into .entry)) (now («into_step» .entry)) (now (out .entry)) (now («out_step» .entry))) i label j)) r ⌝ }
+    ensures { λ r. ⌜
+        Answers t (found .count) (now (steps .exit))
+        ((Useful t j → StepPasses t
+        (linksOf (now (into .entry)) (now («into_step» .entry)) (now (out .entry)) (now («out_step» .entry)))
+        i label j)) r
+        ⌝ }
 {
     let set = found.set;
     if !set.contains((j / limits::STATES) as u8, (j % limits::STATES) as u8) {
@@ -108,7 +118,12 @@ fn try_right(
     requires { ⌜ Ready t found (linksOf (now into) (now «into_step») (now out) (now «out_step»)) (now steps) ⌝ }
     requires { ⌜ Useful t i × LeftSide t i base input to ⌝ }
     requires { ⌜ m < t .count ⌝ }
-    ensures { λ r. ⌜ Answers t (found .count) (now (steps .exit)) (StepsPass t (linksOf (now (into .entry)) (now («into_step» .entry)) (now (out .entry)) (now («out_step» .entry))) i (base + m) (base + m + 1)) r ⌝ }
+    ensures { λ r. ⌜
+        Answers t (found .count) (now (steps .exit))
+        (StepsPass t
+        (linksOf (now (into .entry)) (now («into_step» .entry)) (now (out .entry)) (now («out_step» .entry)))
+        i (base + m) (base + m + 1)) r
+        ⌝ }
 {
     let y = t.transitions[m as usize];
     if (y.from as usize == i % limits::STATES) & (y.input.0 == input) {
@@ -145,7 +160,12 @@ fn beside(
 ) -> Found
     requires { ⌜ Ready t found (linksOf (now into) (now «into_step») (now out) (now «out_step»)) (now steps) ⌝ }
     requires { ⌜ Useful t i × LeftSide t i base input to ⌝ }
-    ensures { λ r. ⌜ Answers t (found .count) (now (steps .exit)) (StepsPass t (linksOf (now (into .entry)) (now («into_step» .entry)) (now (out .entry)) (now («out_step» .entry))) i base (base + noTransition)) r ⌝ }
+    ensures { λ r. ⌜
+        Answers t (found .count) (now (steps .exit))
+        (StepsPass t
+        (linksOf (now (into .entry)) (now («into_step» .entry)) (now (out .entry)) (now («out_step» .entry)))
+        i base (base + noTransition)) r
+        ⌝ }
 {
     let mut m: u16 = 0;
     while m < t.count {
@@ -188,7 +208,12 @@ fn row(
 ) -> Found
     requires { ⌜ Ready t found (linksOf (now into) (now «into_step») (now out) (now «out_step»)) (now steps) ⌝ }
     requires { ⌜ Useful t i × (l < t .count) ⌝ }
-    ensures { λ r. ⌜ Answers t (found .count) (now (steps .exit)) (StepsPass t (linksOf (now (into .entry)) (now («into_step» .entry)) (now (out .entry)) (now («out_step» .entry))) i (l * sides) (l * sides + sides)) r ⌝ }
+    ensures { λ r. ⌜
+        Answers t (found .count) (now (steps .exit))
+        (StepsPass t
+        (linksOf (now (into .entry)) (now («into_step» .entry)) (now (out .entry)) (now («out_step» .entry)))
+        i (l * sides) (l * sides + sides)) r
+        ⌝ }
 {
     let x = t.transitions[l as usize];
     if x.from as usize != i / limits::STATES {
@@ -239,7 +264,12 @@ fn try_steps(
 ) -> Found
     requires { ⌜ Ready t found (linksOf (now into) (now «into_step») (now out) (now «out_step»)) (now steps) ⌝ }
     requires { ⌜ Useful t i ⌝ }
-    ensures { λ r. ⌜ Answers t (found .count) (now (steps .exit)) (StepsPass t (linksOf (now (into .entry)) (now («into_step» .entry)) (now (out .entry)) (now («out_step» .entry))) i 0 (sides * sides)) r ⌝ }
+    ensures { λ r. ⌜
+        Answers t (found .count) (now (steps .exit))
+        (StepsPass t
+        (linksOf (now (into .entry)) (now («into_step» .entry)) (now (out .entry)) (now («out_step» .entry)))
+        i 0 (sides * sides)) r
+        ⌝ }
 {
     let mut l: u16 = 0;
     while l < t.count {
@@ -279,7 +309,12 @@ fn try_if_start(
 ) -> Found
     requires { ⌜ Ready t found (linksOf (now into) (now «into_step») (now out) (now «out_step»)) (now steps) ⌝ }
     requires { ⌜ Useful t v × (v < mostPairs) ⌝ }
-    ensures { λ r. ⌜ Answers t (found .count) (now (steps .exit)) ((PairIn (t .starts) v → StartPasses t (linksOf (now (into .entry)) (now («into_step» .entry)) (now (out .entry)) (now («out_step» .entry))) v)) r ⌝ }
+    ensures { λ r. ⌜
+        Answers t (found .count) (now (steps .exit))
+        ((PairIn (t .starts) v → StartPasses t
+        (linksOf (now (into .entry)) (now («into_step» .entry)) (now (out .entry)) (now («out_step» .entry)))
+        v)) r
+        ⌝ }
 {
     let starts = t.starts;
     let first = starts.contains((v / limits::STATES) as u8);
@@ -303,7 +338,12 @@ fn try_pair(
 ) -> Found
     requires { ⌜ Ready t found (linksOf (now into) (now «into_step») (now out) (now «out_step»)) (now steps) ⌝ }
     requires { ⌜ i < mostPairs ⌝ }
-    ensures { λ r. ⌜ Answers t (found .count) (now (steps .exit)) ((Useful t i → PairPasses t (linksOf (now (into .entry)) (now («into_step» .entry)) (now (out .entry)) (now («out_step» .entry))) i)) r ⌝ }
+    ensures { λ r. ⌜
+        Answers t (found .count) (now (steps .exit))
+        ((Useful t i → PairPasses t
+        (linksOf (now (into .entry)) (now («into_step» .entry)) (now (out .entry)) (now («out_step» .entry)))
+        i)) r
+        ⌝ }
 {
     let set = found.set;
     if !set.contains((i / limits::STATES) as u8, (i % limits::STATES) as u8) {
