@@ -9,7 +9,7 @@ use lib.ListN.{length, drop, getD, length-append, drop-of-length-le}
 use lib.Seq.{drop-cons}
 use Rattle.fields.specs.Number.{leadingOf, leadingsOf, columnsOf}
 use Rattle.fields.proofs.Columns.{length-columns, columns-number}
-use Rattle.listing.specs.Listing.{fieldWidth, fieldLimit, recordEnd, recordOf, countedOf, letterV, letterW, letterA, letterB, letterX, letterY, witnessListing, verdictListing, refusalListing, translationListing, pairBytes, mostSteps, mostWritten, mostVerdictBytes, mostTranslated, mostTranslationBytes, VerdictRoom, TranslationRoom}
+use Rattle.listing.specs.Listing.{fieldWidth, fieldLimit, recordEnd, recordOf, countedOf, letterV, letterW, letterA, letterB, letterX, letterY, witnessListing, verdictListing, refusalListing, translationListing, pairBytes, mostSteps, mostShown, mostVerdictBytes, mostTranslated, mostTranslationBytes, VerdictRoom, TranslationRoom}
 use Rattle.words.specs.Puts.{Room, Puts}
 use Rattle.words.proofs.PutsLaws.{Left, left-all, left-room, left-next, left-through, left-none}
 
@@ -69,8 +69,8 @@ module _ {out : List ℕ} where
 
 module _ {out : List ℕ} where
   -- items as many as document 01 has at the most, and a buffer of `VERDICT_BYTES`
-  pub verdict-room : {w a b x y : List ℕ} → length w ≤ mostSteps → length a ≤ mostSteps → length b ≤ mostSteps → length x ≤ mostWritten
-      → length y ≤ mostWritten → mostVerdictBytes ≤ length out → VerdictRoom w a b x y out
+  pub verdict-room : {w a b x y : List ℕ} → length w ≤ mostSteps → length a ≤ mostSteps → length b ≤ mostSteps → length x ≤ mostShown
+      → length y ≤ mostShown → mostVerdictBytes ≤ length out → VerdictRoom w a b x y out
   verdict-room w a b x y h = record { word = w; path-a = a; path-b = b; output-x = x; output-y = y; room = h }
 
   -- the same, and a buffer of `TRANSLATION_BYTES`

@@ -1,9 +1,12 @@
 -- What the programs print (document 01, "Writer and programs"): records like the file's, with fields six wide.
 use mathlib.Core.Bool.{Bool, cond}
 use mathlib.Core.List.{List, [], _∷_, _++_, flatMap}
-use Prim.Native.Nat.{ℕ, _≤_}
+use Prim.Native.Nat.{ℕ, _+_, _*_, _≤_}
 use lib.ListN.{length}
 use Rattle.fields.specs.Number.{columnsOf}
+use Rattle.transducer.specs.Limits.{mostOutputs}
+use Rattle.wordsearch.specs.Limits as words
+use Rattle.witness.specs.Sides as walks
 
 -- ---- a record
 
@@ -83,33 +86,33 @@ translationListing items = countedOf letterX items
 abbrev pub pairBytes : ℕ
 pairBytes = 14
 
--- the most items of an input word and of a path
+-- the most items of a shown input word and of a path: 2,047
 abbrev pub mostSteps : ℕ
-mostSteps = 2047
+mostSteps = walks.mostSteps
 
--- the most items of an output: 8 for each step
-abbrev pub mostWritten : ℕ
-mostWritten = 16376
+-- the most items of a shown output: 8 for each step, 16,376
+abbrev pub mostShown : ℕ
+mostShown = mostOutputs * mostSteps
 
--- the longest listing of a verdict: `V`, and five records with their counts and items, 14 + 5 × (2 + 6) + 6 × (3 × 2,047 + 2 × 16,376)
+-- the longest listing of a verdict: `V`, and five records with their counts and items, 233,412 bytes
 abbrev pub mostVerdictBytes : ℕ
-mostVerdictBytes = 233412
+mostVerdictBytes = pairBytes + 5 * (2 + fieldWidth) + fieldWidth * (3 * mostSteps + 2 * mostShown)
 
--- the most items of a translation
+-- the most items of a translation: 65,528
 abbrev pub mostTranslated : ℕ
-mostTranslated = 65528
+mostTranslated = words.mostWritten
 
--- the longest listing of a translation: 2 + 6 × (1 + 65,528)
+-- the longest listing of a translation: 393,176 bytes
 abbrev pub mostTranslationBytes : ℕ
-mostTranslationBytes = 393176
+mostTranslationBytes = 2 + fieldWidth + fieldWidth * mostTranslated
 
 -- the items of a verdict are no more than document 01 has, and the buffer has room for the longest listing
 pub record VerdictRoom (w a b x y out : List ℕ) : Type 0 where
   pub word : length w ≤ mostSteps
   pub path-a : length a ≤ mostSteps
   pub path-b : length b ≤ mostSteps
-  pub output-x : length x ≤ mostWritten
-  pub output-y : length y ≤ mostWritten
+  pub output-x : length x ≤ mostShown
+  pub output-y : length y ≤ mostShown
   pub room : mostVerdictBytes ≤ length out
 
 -- the items of a translation are no more than document 01 has, and the buffer has room for the longest listing

@@ -7,6 +7,9 @@ ghost use lib.ListN.{length};
 ghost use Rattle.fields.specs.Number.{columnsOf};
 ghost use Rattle.listing.specs.Listing.{fieldWidth, fieldLimit, recordOf, countedOf, verdictListing, refusalListing, translationListing, pairBytes, VerdictRoom, TranslationRoom};
 ghost use Rattle.words.specs.Puts.{Room, Puts};
+use witness::CODES;
+use witness::STEPS;
+use wordsearch::limits;
 
 // How many columns a field has.
 const FIELD_WIDTH: usize = 6;
@@ -18,9 +21,9 @@ const RECORD_END: u8 = 10;
 pub const VERDICT_BYTES: usize = 2
     + 2 * FIELD_WIDTH
     + 5 * (2 + FIELD_WIDTH)
-    + FIELD_WIDTH * (3 * 2047 + 2 * 16376);
+    + FIELD_WIDTH * (3 * STEPS + 2 * CODES);
 // The bytes of the longest listing of a translation, 393,176: one record of a count and 65,528 items.
-pub const TRANSLATION_BYTES: usize = 2 + FIELD_WIDTH + FIELD_WIDTH * 65528;
+pub const TRANSLATION_BYTES: usize = 2 + FIELD_WIDTH + FIELD_WIDTH * limits::WRITTEN;
 
 // The listing of a verdict, from the front of `out`: `V` with 0 for single and 1 for split, and u; for split also the input word, the two paths and
 // their outputs. Returns its length.

@@ -26,7 +26,7 @@ use Rattle.engine.specs.Engine.{numberOf, Judged, FileTranslated}
 use Rattle.engine.specs.declared.Judgement.{Judgement}
 use Rattle.engine.specs.declared.FileTranslation.{FileTranslation}
 use Rattle.listing.specs.Listing.{verdictListing, refusalListing, translationListing, VerdictRoom}
-use Rattle.listing.specs.Listing.{mostSteps, mostWritten, mostVerdictBytes, mostTranslated, mostTranslationBytes}
+use Rattle.listing.specs.Listing.{mostSteps, mostShown, mostVerdictBytes, mostTranslated, mostTranslationBytes}
 use Rattle.listing.proofs.ListingLaws.{refusal-length, translation-length, verdict-listing-room}
 use Rattle.report.specs.Report.{lent, judgementListing, VerdictReport, lentOutput, answerListing, TranslationReport}
 
@@ -52,16 +52,16 @@ pub record Few (r : Counts) : Type 0 where
   pub word : r .word ≤ mostSteps
   pub path-a : r .«path_a» ≤ mostSteps
   pub path-b : r .«path_b» ≤ mostSteps
-  pub output-x : r .«output_x» ≤ mostWritten
-  pub output-y : r .«output_y» ≤ mostWritten
+  pub output-x : r .«output_x» ≤ mostShown
+  pub output-y : r .«output_y» ≤ mostShown
 
 -- the buffers are lent in full, no more
 pub record Sized (b : Buffers) : Type 0 where
   pub word : length (b .word) ≡ mostSteps
   pub path-a : length (b .path-a) ≡ mostSteps
   pub path-b : length (b .path-b) ≡ mostSteps
-  pub output-x : length (b .output-x) ≡ mostWritten
-  pub output-y : length (b .output-y) ≡ mostWritten
+  pub output-x : length (b .output-x) ≡ mostShown
+  pub output-y : length (b .output-y) ≡ mostShown
 
 -- no items are few
 none-few : Few noCounts
@@ -101,8 +101,8 @@ lent-sized =
       word = length-replicate {A = ℕ} mostSteps 0;
       path-a = length-replicate {A = ℕ} mostSteps 0;
       path-b = length-replicate {A = ℕ} mostSteps 0;
-      output-x = length-replicate {A = ℕ} mostWritten 0;
-      output-y = length-replicate {A = ℕ} mostWritten 0;
+      output-x = length-replicate {A = ℕ} mostShown 0;
+      output-y = length-replicate {A = ℕ} mostShown 0;
     }
 
 -- so there is room for their listing

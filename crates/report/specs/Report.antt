@@ -9,7 +9,7 @@ use Rattle.witness.specs.Showing.{Buffers}
 use Rattle.engine.specs.Engine.{Judged, FileTranslated}
 use Rattle.engine.specs.declared.Judgement.{Judgement}
 use Rattle.engine.specs.declared.FileTranslation.{FileTranslation}
-use Rattle.listing.specs.Listing.{verdictListing, refusalListing, translationListing, mostSteps, mostWritten, mostTranslated}
+use Rattle.listing.specs.Listing.{verdictListing, refusalListing, translationListing, mostSteps, mostShown, mostTranslated}
 
 -- the five buffers that are lent for a verdict, each of its size in document 01, all zeros
 unfoldable pub lent : Buffers
@@ -18,8 +18,8 @@ lent =
       word = replicate mostSteps 0;
       path-a = replicate mostSteps 0;
       path-b = replicate mostSteps 0;
-      output-x = replicate mostWritten 0;
-      output-y = replicate mostWritten 0;
+      output-x = replicate mostShown 0;
+      output-y = replicate mostShown 0;
     }
 
 -- what is printed of a judgement that leaves b in the buffers: the refusal where it has a number, else the verdict with the items that are counted
