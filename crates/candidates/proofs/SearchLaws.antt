@@ -6,20 +6,18 @@ use Prim.Native.Nat.{ℕ, _+_, _*_, _<_}
 use native.Mathlib.Omega.{arith}
 use borrow.Author.Tests.{ltb-true, ltb-false}
 use lib.Dec.{ltb}
-use Rattle.transducer.specs.Limits.{mostTransitions}
 use Rattle.transducer.specs.StateSet.{In}
 use Rattle.transducer.specs.Valid.{Valid}
 use Rattle.transducer.specs.Paths.{Functional}
 use Rattle.transducer.specs.Useful.{UsefulPair}
 use Rattle.transducer.specs.Walks.{Step, both, left, right, Move}
 use Rattle.transducer.specs.declared.Transducer.{Transducer}
-use Rattle.pairsearch.specs.Numbers.{mostPairs, pairOf, firstOf, secondOf, noTransition, sides, labelOf, stepOf, PairIn, Moves}
+use Rattle.pairsearch.specs.Numbers.{mostPairs, pairOf, noTransition, sides, labelOf, stepOf, Moves}
 use Rattle.pairsearch.proofs.SideLaws.{edge-number}
-use Rattle.pairsearch.proofs.StepLaws.{pair-first, pair-second, both-label, left-label, right-label}
+use Rattle.pairsearch.proofs.StepLaws.{both-label, left-label, right-label}
 use Rattle.pairs.specs.Ways.{Useful}
 use Rattle.pairs.specs.declared.UsefulPairs.{UsefulPairs}
-use Rattle.witness.specs.Walk.{walkOf, Same}
-use Rattle.candidates.specs.Links.{wayIn, wayOut}
+use Rattle.witness.specs.Walk.{Same}
 use Rattle.candidates.specs.Tests.{Links, Ready, PairPasses}
 use Rattle.candidates.proofs.TestLaws.{is-valid, few}
 use Rattle.candidates.proofs.TestSet.{functional}

@@ -1,23 +1,22 @@
 -- What a test compares: the part of the list that was written is the walk of the test, and it leads from two start states to two final states.
 -- Assumes nothing.
-use mathlib.Core.Path.{_≡_, refl, sym, ap, _∙_, subst}
+use mathlib.Core.Path.{_≡_, sym, ap, _∙_, subst}
 use mathlib.Core.Bool.{Bool, true, false, not}
 use mathlib.Core.List.{List, [], _∷_, _++_, append-assoc}
-use Prim.Native.Nat.{ℕ, suc, _+_, _-_, _*_, _≤_, _<_}
+use Prim.Native.Nat.{ℕ, _+_, _-_, _*_, _≤_}
 use native.Mathlib.Omega.{arith}
 use borrow.Author.Tests.{not-true, not-false}
-use lib.ListN.{length, getD, set, take, drop, length-append, length-set}
+use lib.ListN.{length, set, length-append}
 use Rattle.words.specs.Put.{put}
 use Rattle.words.proofs.PutLaws.{put-one, put-length, put-behind, put-there}
-use Rattle.transducer.specs.Valid.{Valid, validOf}
-use Rattle.transducer.specs.Walks.{Step}
+use Rattle.transducer.specs.Valid.{Valid}
 use Rattle.transducer.specs.declared.Transducer.{Transducer}
 use Rattle.transducer.proofs.Facts.{valid-exactly}
 use Rattle.transducer.proofs.MoveLaws.{move-walk}
 use Rattle.transducer.proofs.WalkLaws.{leaves-step}
 use Rattle.pairsearch.specs.Numbers.{mostPairs, firstOf, secondOf, stepOf, PairIn, Moves}
 use Rattle.pairs.specs.UsefulPairs.{hasPair}
-use Rattle.pairs.specs.Ways.{Useful, Ways}
+use Rattle.pairs.specs.Ways.{Useful}
 use Rattle.pairs.specs.declared.UsefulPairs.{UsefulPairs}
 use Rattle.witness.specs.Walk.{walkOf, Same, Whole}
 use Rattle.candidates.specs.Links.{mostSteps, middle, Follows, wayIn, wayOut, EnteredBy, LeftBy, Short}

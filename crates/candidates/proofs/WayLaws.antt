@@ -8,7 +8,6 @@ use Prim.Native.Nat.{ℕ, zero, suc, _+_, _≤_, _<_}
 use native.Mathlib.Omega.{arith}
 use lib.ListN.{getD}
 use Rattle.transducer.specs.Limits.{mostStates}
-use Rattle.transducer.specs.StateSet.{In}
 use Rattle.transducer.specs.Valid.{validOf}
 use Rattle.transducer.specs.Useful.{UsefulPair}
 use Rattle.transducer.specs.Walks.{Step, Reaches, Leaves}
@@ -16,13 +15,13 @@ use Rattle.transducer.specs.declared.StateSet.{StateSet}
 use Rattle.transducer.specs.declared.Transducer.{Transducer}
 use Rattle.transducer.proofs.MoveLaws.{move-walk}
 use Rattle.transducer.proofs.WalkLaws.{walk-nil, reaches-step, leaves-step}
-use Rattle.pairsearch.specs.Numbers.{mostPairs, pairOf, firstOf, secondOf, stepOf, PairIn, Moves}
+use Rattle.pairsearch.specs.Numbers.{mostPairs, pairOf, firstOf, secondOf, stepOf, Moves}
 use Rattle.pairs.specs.Ways.{Useful, MovesBack, Link, Way, Ways}
 use Rattle.pairs.specs.Ways.Link.{stops, goes}
 use Rattle.pairs.specs.declared.UsefulPairs.{UsefulPairs}
 use Rattle.pairs.proofs.PairSetLaws.{pair-low, at-most-pairs}
 use Rattle.witness.specs.Walk.{walkOf}
-use Rattle.candidates.specs.Links.{middle, Follows, wayIn, wayOut, Short}
+use Rattle.candidates.specs.Links.{Follows, wayIn, wayOut, Short}
 use Rattle.candidates.specs.Links.Follows.{ends, goes as on}
 use Rattle.candidates.proofs.LinkLaws.{wayIn-more, wayOut-more, wayIn-none, wayOut-none}
 use Rattle.candidates.proofs.TestSet.{Root, Child, WaysOf}

@@ -11,8 +11,8 @@ use borrow.Author.Tests.{eqb-false}
 use lib.Dec.{eqb}
 use Rattle.transducer.specs.Valid.{validOf}
 use Rattle.transducer.specs.Paths.{Functional}
-use Rattle.transducer.specs.Alike.{Alike}
 use Rattle.transducer.specs.declared.Transducer.{Transducer}
+use Rattle.transducer.proofs.AlikeLaws.{alike-self}
 use Rattle.transducer.proofs.Facts.{valid-exactly}
 use Rattle.tablereader.proofs.Validity.{read-valid}
 use Rattle.translator.specs.Numbers as translation
@@ -105,10 +105,6 @@ judged-determined {f} {b′ = b′} {b″} {r} {r′} h h′ = go (ℕ-discrete 
         let a′ = h′ .taken t in
         rw (a .answer, a′ .answer) (verdicts-agree (a .decided) (a′ .decided))
     go (no n) = same-agree (h .refused n .0 ∙ sym (h′ .refused n .0)) (h .refused n .1 ∙ sym (h′ .refused n .1))
-
--- a transducer is alike to itself
-alike-self : (t : Transducer) → Alike t t
-alike-self t = record { states = refl; starts = λ q. refl; finals = λ q. refl; transitions = λ v. refl }
 
 module _ {f input out₀ out out′ : List ℕ} {q q′ : FileTranslation}
     (h : FileTranslated f input out₀ out q) (h′ : FileTranslated f input out₀ out′ q′)

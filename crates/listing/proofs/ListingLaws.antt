@@ -9,7 +9,7 @@ use lib.ListN.{length, drop, getD, length-append, drop-of-length-le}
 use lib.Seq.{drop-cons}
 use Rattle.fields.specs.Number.{leadingOf, leadingsOf, columnsOf}
 use Rattle.fields.proofs.Columns.{length-columns, columns-number}
-use Rattle.listing.specs.Listing.{fieldWidth, fieldLimit, recordEnd, recordOf, countedOf, letterV, letterW, letterA, letterB, letterX, letterY, witnessListing, verdictListing, refusalListing, translationListing, pairBytes, mostSteps, mostShown, mostVerdictBytes, mostTranslated, mostTranslationBytes, VerdictRoom, TranslationRoom}
+use Rattle.listing.specs.Listing.{fieldWidth, fieldLimit, recordEnd, recordOf, countedOf, letterV, letterW, letterA, letterB, letterX, letterY, witnessListing, verdictListing, refusalListing, translationListing, pairBytes, VerdictRoom}
 use Rattle.words.specs.Puts.{Room, Puts}
 use Rattle.words.proofs.PutsLaws.{Left, left-all, left-room, left-next, left-through, left-none}
 
@@ -64,18 +64,6 @@ module _ {out : List ℕ} where
   pub verdict-listing-room : (split : Bool) (u : ℕ) {w a b x y : List ℕ} → VerdictRoom w a b x y out → Room out 0 (verdictListing split u w a b x y)
   verdict-listing-room true u {w} {a} {b} {x} {y} r = record { room = omega (arith, verdict-length true u w a b x y) }
   verdict-listing-room false u {w} {a} {b} {x} {y} r = record { room = omega (arith, verdict-length false u w a b x y) }
-
--- ---- the largest case has room: what a caller shows of its buffers
-
-module _ {out : List ℕ} where
-  -- items as many as document 01 has at the most, and a buffer of `VERDICT_BYTES`
-  pub verdict-room : {w a b x y : List ℕ} → length w ≤ mostSteps → length a ≤ mostSteps → length b ≤ mostSteps → length x ≤ mostShown
-      → length y ≤ mostShown → mostVerdictBytes ≤ length out → VerdictRoom w a b x y out
-  verdict-room w a b x y h = record { word = w; path-a = a; path-b = b; output-x = x; output-y = y; room = h }
-
-  -- the same, and a buffer of `TRANSLATION_BYTES`
-  pub translation-room : {items : List ℕ} → length items ≤ mostTranslated → mostTranslationBytes ≤ length out → TranslationRoom items out
-  translation-room few h = record { few = few; room = h }
 
 -- ---- the parts in which a record is put
 

@@ -13,7 +13,8 @@ use lib.Seq.{take-at}
 use Rattle.transducer.specs.Transition.{bytesOf}
 use Rattle.transducer.specs.Paths.{Functional}
 use Rattle.words.specs.Puts.{Puts}
-use Rattle.pathwords.proofs.WordLaws.{length-bytes, front-put}
+use Rattle.transducer.proofs.SizeLaws.{length-bytes}
+use Rattle.pathwords.proofs.WordLaws.{front-put}
 use Rattle.translator.specs.Words as words
 use Rattle.translator.specs.Translated.{Outcome, Translated}
 use Rattle.translator.specs.declared.Translation.{Translation}

@@ -190,6 +190,10 @@ alike-within {t} {t′} h =
       transitions = λ l b. counted-among t′ (at t l) (t′ .count) (rw (h .transitions (at t l)) at (at-counted t (t .count) l b));
     }
 
+-- a transducer is alike to itself
+pub alike-self : (t : Transducer) → Alike t t
+alike-self t = record { states = refl; starts = λ q. refl; finals = λ q. refl; transitions = λ v. refl }
+
 -- being alike goes both ways
 pub alike-sym : {t t′ : Transducer} → Alike t t′ → Alike t′ t
 alike-sym h =

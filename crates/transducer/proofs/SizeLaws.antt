@@ -3,9 +3,9 @@ use mathlib.Core.Path.{_≡_, refl}
 use mathlib.Core.List.{List, [], _∷_}
 use Prim.Native.Nat.{ℕ, zero, suc, _*_, _≤_, _<_}
 use native.Mathlib.Omega.{arith}
-use lib.ListN.{length, length-append}
+use lib.ListN.{length, length-append, length-map}
 use Rattle.transducer.specs.Limits.{mostOutputs}
-use Rattle.transducer.specs.Transition.{at, firsts, writtenBy}
+use Rattle.transducer.specs.Transition.{OutputWord, bytesOf, at, firsts, writtenBy}
 use Rattle.transducer.specs.Paths.{Path, here, step, writes}
 use Rattle.transducer.specs.Walks.{Step, both, left, right, leftOf, rightOf}
 use Rattle.transducer.specs.declared.Transition.{Transition}
@@ -23,6 +23,10 @@ pub length-firsts : {A : Type 0} (n : ℕ) (f : ℕ → A) → length (firsts n 
 unfolding firsts
 length-firsts zero f = refl
 length-firsts (suc n) f = omega (arith, length-append (firsts n f) (f n ∷ []), length-firsts n f)
+
+-- an output word has as many bytes as codes
+pub length-bytes : (y : OutputWord) → length (bytesOf y) ≡ length y
+length-bytes y = length-map y _
 
 -- a transition writes as many codes as its count says
 pub length-written : (v : Transition) → length (writtenBy v) ≡ v .count

@@ -5,15 +5,11 @@ use Prim.Native.Nat.{ℕ, suc, _+_, _≤_, _<_}
 use native.Mathlib.Nat.{add-zero}
 use native.Mathlib.Numerals.{add-one}
 use native.Mathlib.Omega.{arith}
-use lib.ListN.{length, drop, set, length-map}
+use lib.ListN.{length, drop, set}
 use lib.Seq.{sets, sets-eq, set-comm}
 use Rattle.transducer.specs.Transition.{OutputWord, firsts, outputAt, bytesOf}
 use Rattle.transducer.specs.declared.Transition.{Transition}
-use Rattle.transducer.proofs.SizeLaws.{length-firsts}
-
--- an output word has as many bytes as codes
-pub length-bytes : (y : OutputWord) → length (bytesOf y) ≡ length y
-length-bytes y = length-map y _
+use Rattle.transducer.proofs.SizeLaws.{length-firsts, length-bytes}
 
 -- the bytes of joined words are the joined bytes
 bytes-append : (x y : OutputWord) → bytesOf (x ++ y) ≡ bytesOf x ++ bytesOf y

@@ -19,13 +19,13 @@ use Rattle.transducer.specs.Alike.{Alike}
 use Rattle.transducer.specs.declared.Transducer.{Transducer}
 use Rattle.transducer.proofs.Bools.{and-both, all-of}
 use Rattle.transducer.proofs.AlikeLaws.{alike-equivalent}
+use Rattle.transducer.proofs.SizeLaws.{length-bytes}
 use Rattle.wordsearch.specs.Limits.{mostWord, mostWritten}
 use Rattle.translator.specs.Numbers.{numberOf, lengthOf}
 use Rattle.translator.specs.Words.{codeAt, codesOf, refusalOf}
 use Rattle.translator.specs.Translated.{Outcome, Translated}
 use Rattle.translator.specs.declared.Translation.{Translation}
 use Rattle.translator.specs.declared.Translation.the-variants.{Written, Invalid, WordTooLong, NoInputCode, Unread, BufferTooShort}
-use Rattle.translator.proofs.BufferLaws.{length-bytes}
 use Rattle.translator.proofs.RefusalLaws.{refusal-none}
 
 -- ---- an answer is its number and its length

@@ -1,6 +1,5 @@
 -- `row` meets its contract. Assumes nothing.
-use mathlib.Core.Path.{_≡_, refl}
-use Prim.Native.Nat.{_*_, _+_, _<_}
+use mathlib.Core.Path.{refl}
 use native.Mathlib.Omega.{arith}
 use borrow.Author.Needs.{needs}
 use Rattle.transducer.specs.Transition.{at}
@@ -8,7 +7,6 @@ use Rattle.transducer.specs.Walks.{Edge}
 use Rattle.pairsearch.specs.Numbers.{firstOf}
 use Rattle.pairsearch.specs.Confined.LeftSide.{moves}
 use Rattle.pairsearch.proofs.SideLaws.{edge-low, left-moves}
-use Rattle.candidates.proofs.WayLaws.{useful-low}
 use Rattle.candidates.proofs.TestLaws.{answers, is-valid}
 use Rattle.candidates.proofs.PassLaws.{row-none, row-paired, row-alone}
 use Rattle.candidates.proofs.row.Statement.{statement}

@@ -1,8 +1,8 @@
 -- `try_step` meets its contract: what is compared is the way into the first pair, the step, and the way out of the second. Assumes nothing.
-use mathlib.Core.Path.{_≡_, sym, ap, _∙_}
+use mathlib.Core.Path.{sym, _∙_}
 use native.Mathlib.Omega.{arith}
 use borrow.Author.Needs.{needs}
-use lib.ListN.{length, length-set}
+use lib.ListN.{length-set}
 use Rattle.candidates.proofs.TestLaws.{answers, is-valid, short-in, short-out, few, entered-length, step-passes, step-whole, step-length, step-bounds, member-useful, not-useful}
 use Rattle.candidates.proofs.try_step.Statement.{statement}
 use Rattle.candidates.proofs.try_step.Tie as tie

@@ -1,7 +1,7 @@
 -- `try_steps` meets its contract. The loop's invariant: the tests at the steps that take one of the transitions 0 to l - 1 on the left side have
 -- passed. Assumes nothing.
 use mathlib.Core.Path.{_≡_, refl}
-use Prim.Native.Nat.{_*_, _-_, _≤_, _<_}
+use Prim.Native.Nat.{_*_, _-_, _≤_}
 use native.Mathlib.Omega.{arith}
 use borrow.Author.Needs.{needs}
 use lib.ListN.{length}

@@ -1,9 +1,8 @@
 -- `examine` meets its contract. Assumes nothing.
-use mathlib.Core.Path.{_≡_, refl, sym, ap, _∙_}
-use Prim.Native.Nat.{_*_, _-_, _≤_}
+use mathlib.Core.Path.{refl}
+use Prim.Native.Nat.{_-_}
 use native.Mathlib.Omega.{arith}
 use borrow.Author.Needs.{needs}
-use lib.ListN.{length}
 use Rattle.transducer.proofs.Facts.{valid-exactly}
 use Rattle.pairs.proofs.PairSetLaws.{at-most-pairs}
 use Rattle.candidates.proofs.TestLaws.{found-nothing, found-at}
