@@ -9,7 +9,7 @@ use native.Mathlib.Nat.{eq-or-lt-of-le, le-of-suc-le-suc}
 use native.Mathlib.Omega.{arith}
 use lib.Dec.{eqb}
 use borrow.Author.Tests.{eqb-true, eq-eqb}
-use Rattle.transducer.specs.StateSet.{In, pick}
+use Rattle.transducer.specs.StateSet.{In}
 use Rattle.transducer.specs.Transition.{InputWord, OutputWord, at}
 use Rattle.transducer.specs.Paths.{Path, here, step, reads, writes, Relates, Functional, Witness, Equivalent}
 use Rattle.transducer.specs.Useful.{Through, UsefulState, UsefulPair}
@@ -174,10 +174,13 @@ module _ (t : Transducer) where
   counted-among v zero h = absurd (omega arith)
   counted-among v (suc n) h = go (sameTransition v (at t n)) refl h (counted-among v n)
     where
-      go : (b : Bool) → sameTransition v (at t n) ≡ b → 0 < timesBelow t v n + pick b 1 0
+      go : (b : Bool) → sameTransition v (at t n) ≡ b → 0 < timesBelow t v (suc n)
           → (0 < timesBelow t v n → Among t n v) → Among t (suc n) v
       go true e h rest = record { number = n; below = omega arith; same = sym (sameTransition-equal v (at t n) e) }
-      go false e h rest = let a = rest (omega arith) in record { number = a .number; below = omega arith; same = a .same }
+      go false e h rest =
+          let counted = rw e at h in
+          let a = rest (omega arith) in
+          record { number = a .number; below = omega arith; same = a .same }
 
 -- ---- equal up to the order of transitions
 

@@ -7,5 +7,6 @@ pub mod FunctionalLaws
 pub mod WalkLaws
 pub mod MoveLaws
 pub mod AlikeLaws
+pub mod ExchangedLaws
 pub mod SizeLaws
 pub mod ReversalLaws

@@ -4,6 +4,7 @@ use mathlib.Core.Bool.{Bool, true, false, _&&_}
 use mathlib.Core.List.{List, [], _∷_}
 use Prim.Native.Nat.{ℕ, zero, suc, _+_}
 use lib.Dec.{eqb}
+use lib.ListN.{set}
 use Rattle.transducer.specs.StateSet.{pick, has}
 use Rattle.transducer.specs.Transition.{at}
 use Rattle.transducer.specs.declared.OutputCode.{OutputCode}
@@ -38,3 +39,12 @@ pub record Alike (t t′ : Transducer) : Type 0 where
   pub starts : (q : ℕ) → has (t .starts) q ≡ has (t′ .starts) q
   pub finals : (q : ℕ) → has (t .finals) q ≡ has (t′ .finals) q
   pub transitions : (v : Transition) → times t v ≡ times t′ v
+
+-- t with v in the place of transition l
+abbrev pub replaced : Transducer → ℕ → Transition → Transducer
+replaced t l v =
+    record { states = t .states; starts = t .starts; finals = t .finals; count = t .count; transitions = set (t .transitions) l v }
+
+-- t with transitions l and m exchanged: it is alike to t (`exchanged-alike` of proofs/ExchangedLaws.antt)
+abbrev pub exchanged : Transducer → ℕ → ℕ → Transducer
+exchanged t l m = replaced (replaced t l (at t m)) m (at t l)

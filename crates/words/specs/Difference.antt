@@ -1,7 +1,7 @@
 -- The difference of two words (document 01, "The difference of two outputs"). A word is a list of codes, and any bytes count as codes.
 use mathlib.Core.Bool.{cond}
 use mathlib.Core.List.{List, [], _∷_}
-use Prim.Native.Nat.{ℕ, suc}
+use Prim.Native.Nat.{ℕ, suc, _+_}
 use lib.Dec.{eqb}
 use Rattle.words.specs.declared.Comparison.{Comparison}
 use Rattle.words.specs.declared.Comparison.the-variants.{Level, FirstAhead, SecondAhead, Clash}
@@ -24,3 +24,19 @@ unfoldable pub unmatchedOf : List ℕ → List ℕ → List ℕ
 unmatchedOf [] y = y
 unmatchedOf (a ∷ x) [] = a ∷ x
 unmatchedOf (a ∷ x) (b ∷ y) = cond (eqb a b) (unmatchedOf x y) []
+
+-- n places past a place: a place is a block of memory and how far into it
+abbrev pub past : ℕ → ℕ × ℕ → ℕ × ℕ
+past n place = (place .0, n + place .1)
+
+-- the list that the part shown is of: the second where it is ahead, else the first
+abbrev pub ofAhead : {A : Type 0} → Comparison → A → A → A
+ofAhead Level x y = x
+ofAhead FirstAhead x y = x
+ofAhead SecondAhead x y = y
+ofAhead Clash x y = x
+
+-- where the part shown begins, of lists that begin at px and py: in the list that is ahead, past what the two have in common; for level and clash,
+-- where the part is empty, in the first
+abbrev pub placeOf : List ℕ → List ℕ → ℕ × ℕ → ℕ × ℕ → ℕ × ℕ
+placeOf x y px py = past (sharedOf x y) (ofAhead (differenceOf x y) px py)

@@ -2,7 +2,8 @@
 // and the rests tell how the two compare and what of the longer one is unmatched. The contracts cite `differenceOf` and `unmatchedOf`
 // of specs/Difference.antt; the laws about them, and `exchange` about words over any alphabet, are in proofs/.
 ghost use mathlib.Core.Path.{_≡_};
-ghost use Rattle.words.specs.Difference.{sharedOf, differenceOf, unmatchedOf};
+ghost use denote.Ref.{ptr};
+ghost use Rattle.words.specs.Difference.{sharedOf, differenceOf, unmatchedOf, placeOf};
 
 // How two words compare once their common beginning is stripped.
 pub enum Comparison {
@@ -39,12 +40,13 @@ pub fn difference(x: &[u8], y: &[u8]) -> Comparison
 // The unmatched end of the longer word, as the part of x or y that it is (nothing is copied); the empty part where they are level or clash.
 pub fn unmatched<'a>(x: &'a [u8], y: &'a [u8]) -> &'a [u8]
     ensures { λ r. ⌜ now r ≡ unmatchedOf (now (x .entry)) (now (y .entry)) ⌝ }
+    ensures { λ r. ⌜ ptr r ≡ placeOf (now (x .entry)) (now (y .entry)) (ptr (x .entry)) (ptr (y .entry)) ⌝ }
 {
     let n = shared(x, y);
-    if n < x.len() {
-        if n < y.len() { &x[0..0] } else { &x[n..] }
+    if n < y.len() {
+        if n < x.len() { &x[n..n] } else { &y[n..] }
     } else {
-        &y[n..]
+        &x[n..]
     }
 }
 
