@@ -14,7 +14,6 @@ use Rattle.pairsearch.proofs.StepLaws.{pair-first, pair-second}
 use Rattle.pairs.specs.UsefulPairs.{hasPair, countTrue}
 use Rattle.pairs.proofs.PairSetLaws.{has-pair, pair-low}
 use Rattle.functionality.specs.Decided.{UsefulCount}
-use Rattle.functionality.proofs.DecidedLaws.{useful-count-unique}
 use Rattle.cases.proofs.Each.{Each, more, nothing}
 
 -- the flags of the pairs with these numbers
@@ -40,10 +39,9 @@ flags-only {S} (more {a = w} {list = pairs} s each) v h e = go (ℕ-discrete v w
 -- where each of these pairs is useful, and every useful pair is one of them, u is how many they are
 pub useful-count : {t : Transducer} {pairs : List ℕ} → Each (λ v. UsefulPair t (firstOf v) (secondOf v)) pairs
     → ((p q : ℕ) → UsefulPair t p q → hasPair (record { member = flagsOf pairs }) p q ≡ true)
-    → (u : ℕ) → UsefulCount t u → u ≡ countTrue (flagsOf pairs)
-useful-count {t} {pairs} each all u count =
-    useful-count-unique count
-    (record { set = record { member = flagsOf pairs }; long = flags-long pairs; members = λ p q. (useful p q, all p q); counted = refl })
+    → UsefulCount t (countTrue (flagsOf pairs))
+useful-count {t} {pairs} each all =
+    record { set = record { member = flagsOf pairs }; long = flags-long pairs; members = λ p q. (useful p q, all p q); counted = refl }
   where
     useful : (p q : ℕ) → hasPair (record { member = flagsOf pairs }) p q ≡ true → UsefulPair t p q
     useful p q h =

@@ -96,7 +96,7 @@ module _ (last : List ℕ) where
       (omega (arith, rw (start-0 last (h .first) (h .starts)) at (d .0)), d .1)
 
   -- u is 6
-  pub useful-D : validOf (tableD last) ≡ true → (n : ℕ) → UsefulCount (tableD last) n → n ≡ 6
+  pub useful-D : validOf (tableD last) ≡ true → UsefulCount (tableD last) 6
   unfolding flagsOf countTrue
   useful-D valid =
       useful-count each-useful

@@ -9,11 +9,11 @@ use native.Mathlib.Omega.{arith}
 use borrow.Author.Tests.{eqb-true, ne-eqb}
 use lib.ListN.{length, take}
 use lib.Seq.{take-at}
-use Rattle.transducer.specs.Transition.{wordOf, bytesOf}
+use Rattle.transducer.specs.Transition.{wordOf}
 use Rattle.transducer.specs.Paths.{reads, Accepting, outputOf, Functional}
 use Rattle.transducer.specs.Alike.{Alike}
 use Rattle.transducer.specs.declared.Transducer.{Transducer}
-use Rattle.transducer.proofs.FunctionalLaws.{functional-paths}
+use Rattle.transducer.proofs.FunctionalLaws.{functional-paths, witness-refutes}
 use Rattle.transducer.proofs.AlikeLaws.{alike-functional}
 use Rattle.tablereader.proofs.Validity.{read-valid}
 use Rattle.wordsearch.specs.Limits.{mostWord}
@@ -21,6 +21,7 @@ use Rattle.translator.proofs.TranslationLaws as translation
 use Rattle.translator.proofs.TranslationLaws.{gives-the-output}
 use Rattle.witness.specs.Showing.{Buffers, Showing}
 use Rattle.witness.specs.declared.Counts.{Counts}
+use Rattle.witness.proofs.ShowingLaws.{shown-witness}
 use Rattle.functionality.specs.Decided.{refusalOf, verdictOf, UsefulCount, Decided}
 use Rattle.functionality.specs.declared.Verdict.{Verdict}
 use Rattle.functionality.proofs.DecidedLaws.{useful-count-unique, alike-useful-count}
@@ -36,22 +37,11 @@ use Rattle.engine.proofs.InputCodes.{reads-in-range}
 
 -- a functional transducer has no two readings
 functional-one : {t : Transducer} → Functional t → ¬ (TwoReadings t)
-functional-one {t} f w = w .differ (functional-paths t .0 f _ _ (w .one) (w .other) (w .a-reads ∙ sym (w .b-reads)))
+functional-one f w = witness-refutes (w .witness) f
 
 -- what a split verdict shows are two readings
 shown-two : {t : Transducer} {n : ℕ} {b b′ : Buffers} {c : Counts} → Showing t n b b′ c → TwoReadings t
-shown-two h =
-    let s = h .shown in
-    record {
-      word = wordOf (h .lists .word);
-      path-a = h .lists .path-a;
-      path-b = h .lists .path-b;
-      one = s .one;
-      other = s .other;
-      a-reads = s .a-reads;
-      b-reads = s .b-reads;
-      differ = λ e. s .differ (sym (s .a-writes) ∙ ap bytesOf e ∙ s .b-writes);
-    }
+shown-two h = record { word = _; output-x = _; output-y = _; witness = shown-witness (h .shown) }
 
 -- ---- flags
 

@@ -24,7 +24,7 @@ use Rattle.functionality.specs.Decided as verdict
 use Rattle.functionality.specs.Decided.{verdictOf, Decided}
 use Rattle.functionality.specs.declared.Verdict.{Verdict}
 use Rattle.functionality.proofs.DecidedLaws.{zero-or-one, decided-determined}
-use Rattle.engine.specs.Engine.{numberOf, Taken, tableOf, refusedJudgement, judgementOf, Judged}
+use Rattle.engine.specs.Engine.{numberOf, Taken, tableOf, refusedJudgement, judgementOf, Judged, Agree}
 use Rattle.engine.specs.Engine.{refusedTranslation, fileTranslationOf, FileTranslated}
 use Rattle.engine.specs.declared.Judgement.{Judgement}
 use Rattle.engine.specs.declared.FileTranslation.{FileTranslation}
@@ -62,15 +62,6 @@ module _ {f : List ℕ} where
   file-judged t h e = record { refused = λ n. absurd (n t); taken = λ _. record { verdict = _; decided = h; answer = e } }
 
 -- ---- what the contracts determine
-
--- two judgements agree in all that document 01 settles; b′ and b″ are what they leave in the buffers
-pub record Agree (b′ b″ : Buffers) (r r′ : Judgement) : Type 0 where
-  pub number : r .number ≡ r′ .number
-  pub at-record : r .«record» ≡ r′ .«record»
-  pub split : r .split ≡ r′ .split
-  pub useful : r .useful ≡ r′ .useful
-  -- which witness a split verdict shows is free; any other judgement is the same whole, and leaves the same
-  pub unless-split : r .split ≡ false → (r ≡ r′) × (b′ ≡ b″)
 
 same-agree : {b′ b″ : Buffers} {r r′ : Judgement} → r ≡ r′ → b′ ≡ b″ → Agree b′ b″ r r′
 same-agree e k =

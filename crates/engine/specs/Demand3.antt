@@ -4,11 +4,11 @@
 use mathlib.Core.Path.{_≡_}
 use mathlib.Core.Bool.{true, false}
 use mathlib.Core.List.{List, _++_}
-use mathlib.Core.Logic.{_≢_, _↔_}
+use mathlib.Core.Logic.{_↔_}
 use Prim.Native.Nat.{ℕ, _*_, _-_, _≤_}
 use lib.ListN.{length, take, drop}
 use Rattle.transducer.specs.Transition.{InputWord, OutputWord, wordOf, bytesOf}
-use Rattle.transducer.specs.Paths.{reads, Accepting, outputOf}
+use Rattle.transducer.specs.Paths.{reads, Accepting, outputOf, Witness}
 use Rattle.transducer.specs.Alike.{Alike}
 use Rattle.transducer.specs.declared.Transducer.{Transducer}
 use Rattle.wordsearch.specs.Limits.{mostWord, mostWritten}
@@ -21,13 +21,9 @@ use Rattle.engine.specs.declared.FileTranslation.{FileTranslation}
 -- some input word, however long, has two accepting paths with different outputs
 pub record TwoReadings (t : Transducer) : Type 0 where
   pub word : InputWord
-  pub path-a : List ℕ
-  pub path-b : List ℕ
-  pub one : Accepting t path-a
-  pub other : Accepting t path-b
-  pub a-reads : reads t path-a ≡ word
-  pub b-reads : reads t path-b ≡ word
-  pub differ : outputOf t one ≢ outputOf t other
+  pub output-x : OutputWord
+  pub output-y : OutputWord
+  pub witness : Witness t word output-x output-y
 
 -- r is a judgement of the file f from buffers b that are lent in full, and b′ is what it leaves there
 pub record JudgedInFull (f : List ℕ) (b b′ : Buffers) (r : Judgement) : Type 0 where

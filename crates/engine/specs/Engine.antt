@@ -66,6 +66,16 @@ pub record Judged (f : List ℕ) (b b′ : Buffers) (r : Judgement) : Type 0 whe
   pub refused : numberOf f ≢ 0 → (r ≡ refusedJudgement f) × (b′ ≡ b)
   pub taken : Taken f → VerdictOn (tableOf f) b b′ r
 
+-- two judgements agree in all that document 01 settles; b′ and b″ are what they leave in the buffers. Any two that meet the contract from the same
+-- file and buffers do: `judged-determined` of proofs/EngineLaws.antt
+pub record Agree (b′ b″ : Buffers) (r r′ : Judgement) : Type 0 where
+  pub number : r .number ≡ r′ .number
+  pub at-record : r .«record» ≡ r′ .«record»
+  pub split : r .split ≡ r′ .split
+  pub useful : r .useful ≡ r′ .useful
+  -- which witness a split verdict shows is free; any other judgement is the same whole, and leaves the same
+  pub unless-split : r .split ≡ false → (r ≡ r′) × (b′ ≡ b″)
+
 -- ---- a translation by a file
 
 -- a refused file: the reader's number and record, and nothing is written

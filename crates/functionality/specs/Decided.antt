@@ -81,3 +81,13 @@ pub record Decided (t : Transducer) (b b′ : Buffers) (r : Verdict) : Type 0 wh
   pub shows : verdictOf (r .outcome) ≡ 1 → Showing t (2 * r .useful - 1) b b′ (r .counts)
   -- any other changes no buffer
   pub unchanged : verdictOf (r .outcome) ≡ 0 → (b′ ≡ b) × (r .counts ≡ noCounts)
+
+-- ---- what the contract settles
+
+-- two verdicts agree in all that document 01 settles; b′ and b″ are what they leave in the buffers. Any two that meet the contract from the same
+-- transducer and buffers do: `decided-determined` of proofs/DecidedLaws.antt
+pub record Agree (b′ b″ : Buffers) (r r′ : Verdict) : Type 0 where
+  pub outcome : r .outcome ≡ r′ .outcome
+  pub useful : r .useful ≡ r′ .useful
+  -- which witness a split verdict shows is free; any other verdict is the same whole, and leaves the same
+  pub unless-split : verdictOf (r .outcome) ≡ 0 → (r ≡ r′) × (b′ ≡ b″)

@@ -3,7 +3,7 @@
 use mathlib.Core.Path.{_≡_, refl, sym, ap, _∙_}
 use mathlib.Core.Bool.{Bool, true, false}
 use mathlib.Core.List.{List, [], _++_}
-use mathlib.Core.Logic.{_≢_}
+use mathlib.Core.Logic.{_≢_, _↔_}
 use Prim.Native.Nat.{ℕ, _≤_, _<_}
 use native.Mathlib.Decide.{ℕ-discrete}
 use native.Mathlib.Omega.{arith}
@@ -23,7 +23,7 @@ use Rattle.transducer.proofs.SizeLaws.{length-bytes}
 use Rattle.wordsearch.specs.Limits.{mostWord, mostWritten}
 use Rattle.translator.specs.Numbers.{numberOf, lengthOf}
 use Rattle.translator.specs.Words.{codeAt, codesOf, refusalOf}
-use Rattle.translator.specs.Translated.{Outcome, Translated}
+use Rattle.translator.specs.Translated.{Outcome, Translated, Same}
 use Rattle.translator.specs.declared.Translation.{Translation}
 use Rattle.translator.specs.declared.Translation.the-variants.{Written, Invalid, WordTooLong, NoInputCode, Unread, BufferTooShort}
 use Rattle.translator.proofs.RefusalLaws.{refusal-none}
@@ -82,15 +82,52 @@ module _ {t : Transducer} {input out₀ out : List ℕ} {r : Translation} where
       go (yes z) = outcome (h .answered z)
       go (no z) = refusal-no-seven t input (sym (h .refused z) ∙ e)
 
--- ---- on a functional transducer the contract determines the answer
+-- ---- which refusal is given
 
--- two answers are the same, and both buffers begin with the same bytes; the places beyond hold what they held
-pub record Same (out₀ out out₀′ out′ : List ℕ) (r r′ : Translation) : Type 0 where
-  pub answer : r ≡ r′
-  pub bytes : List ℕ
-  pub size : lengthOf r ≡ length bytes
-  pub one : out ≡ bytes ++ drop (length bytes) out₀
-  pub other : out′ ≡ bytes ++ drop (length bytes) out₀′
+module _ {t : Transducer} {input out₀ out : List ℕ} {r : Translation} (h : Translated t input out₀ out r) where
+  -- 8, 9 and 10 are given exactly where the definition says so, whatever the transducer is
+  pub refused-exactly : (n : ℕ) → 8 ≤ n → n ≤ 10 → (numberOf r ≡ n) ↔ (refusalOf t input ≡ n)
+  refused-exactly n low high = (λ e. go e (ℕ-discrete (refusalOf t input) 0), λ e. h .refused (λ z. omega arith) ∙ e)
+    where
+      outcome : numberOf r ≡ n → Outcome t input out₀ out r → ⊥
+      outcome e (Outcome.written a few fits k l o) = omega arith
+      outcome e (Outcome.unread never k) = omega arith
+      outcome e (Outcome.short a few long k) = omega arith
+
+      go : numberOf r ≡ n → Dec (refusalOf t input ≡ 0) → refusalOf t input ≡ n
+      go e (yes z) = absurd (outcome e (h .answered z))
+      go e (no z) = sym (h .refused z) ∙ e
+
+  module _ (none : refusalOf t input ≡ 0) where
+    -- 11 is given exactly where no accepting path reads the word
+    pub unread-exactly : (numberOf r ≡ 11) ↔ ((y : OutputWord) → Relates t (wordOf input) y → ⊥)
+    unread-exactly = (λ e. to e (h .answered none), λ never. from never (h .answered none))
+      where
+        to : numberOf r ≡ 11 → Outcome t input out₀ out r → (y : OutputWord) → Relates t (wordOf input) y → ⊥
+        to e (Outcome.written a few fits k l o) = absurd (omega arith)
+        to e (Outcome.unread never k) = never
+        to e (Outcome.short a few long k) = absurd (omega arith)
+
+        from : ((y : OutputWord) → Relates t (wordOf input) y → ⊥) → Outcome t input out₀ out r → numberOf r ≡ 11
+        from never (Outcome.written a few fits k l o) = absurd (never _ a)
+        from never (Outcome.unread never′ k) = k
+        from never (Outcome.short a few long k) = absurd (never _ a)
+
+    -- on a functional transducer 7 is given exactly where the output of the word is longer than the buffer
+    pub short-exactly : {y : OutputWord} → Functional t → Relates t (wordOf input) y → (numberOf r ≡ 7) ↔ (length out₀ < length y)
+    short-exactly {y} f b = (λ e. to e (h .answered none), λ long. from long (h .answered none))
+      where
+        to : numberOf r ≡ 7 → Outcome t input out₀ out r → length out₀ < length y
+        to e (Outcome.written a few fits k l o) = absurd (omega arith)
+        to e (Outcome.unread never k) = absurd (never y b)
+        to e (Outcome.short {y = z} a few long k) = omega (arith, ap length (f (wordOf input) z y a b))
+
+        from : length out₀ < length y → Outcome t input out₀ out r → numberOf r ≡ 7
+        from long (Outcome.written {y = z} a few fits k l o) = absurd (omega (arith, ap length (f (wordOf input) z y a b)))
+        from long (Outcome.unread never k) = absurd (never y b)
+        from long (Outcome.short a few long′ k) = k
+
+-- ---- on a functional transducer the contract determines the answer
 
 -- a buffer holds each output that the other holds
 abbrev pub Holds : List ℕ → List ℕ → Type 0
@@ -140,6 +177,13 @@ module _ {t : Transducer} {input out₀ out out₀′ out′ : List ℕ} {r r′
       go : Dec (refusalOf t input ≡ 0) → Same out₀ out out₀′ out′ r r′
       go (yes z) = outcomes (h .answered z) (h′ .answered z)
       go (no z) = same-refusal (λ e. z (sym (h .refused z) ∙ e)) (h .refused z ∙ sym (h′ .refused z)) h h′
+
+-- where 8, 9 or 10 is given, the contract determines the answer and the buffer, whatever the transducer is
+pub refused-determined : {t : Transducer} {input out₀ out out′ : List ℕ} {r r′ : Translation} → refusalOf t input ≢ 0
+    → Translated t input out₀ out r → Translated t input out₀ out′ r′ → (r ≡ r′) × (out ≡ out′)
+refused-determined z h h′ =
+    let s = same-refusal (λ e. z (sym (h .refused z) ∙ e)) (h .refused z ∙ sym (h′ .refused z)) h h′ in
+    (s .answer, s .one ∙ sym (s .other))
 
 -- from one buffer the contract determines the answer and the buffer
 pub translated-determined : {t : Transducer} {input out₀ out out′ : List ℕ} {r r′ : Translation} → Functional t

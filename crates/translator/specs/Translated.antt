@@ -31,3 +31,11 @@ module _ (t : Transducer) (input out₀ out : List ℕ) (r : Translation) where
     pub answered : refusalOf t input ≡ 0 → Outcome
     -- a refusal changes no place of the buffer
     pub unchanged : numberOf r ≢ 0 → out ≡ out₀
+
+-- two answers are the same, and both buffers begin with the same bytes; the places beyond hold what they held
+pub record Same (out₀ out out₀′ out′ : List ℕ) (r r′ : Translation) : Type 0 where
+  pub answer : r ≡ r′
+  pub bytes : List ℕ
+  pub size : lengthOf r ≡ length bytes
+  pub one : out ≡ bytes ++ drop (length bytes) out₀
+  pub other : out′ ≡ bytes ++ drop (length bytes) out₀′

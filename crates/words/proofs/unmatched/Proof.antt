@@ -88,9 +88,10 @@ returns-2 c =
 returns-3 : tie.Need-returns-3
 returns-3 c =
     let p = c .before .before in
-    let y-ends = drop-of-length-le (Y p) (c .before .if1 .left) in
-    (rw (whole-rest, known p .leaves, y-ends, alone-unmatched),
-     rw (known p .compares, y-ends, alone-shown (drop (p .shared .result) (X p)) (p .before .before .before .args .x .ptr), ← p .shared .ensures))
+    let y-ends = drop-of-length-le (Y p) (c .before .if1 .left) in (
+      rw (whole-rest, known p .leaves, y-ends, alone-unmatched),
+      rw (known p .compares, y-ends, alone-shown (drop (p .shared .result) (X p)) (p .before .before .before .args .x .ptr), ← p .shared .ensures),
+    )
 
 pub unmatched-spec : {M : Type 1} → statement M
 unmatched-spec =
