@@ -38,5 +38,5 @@ ofAhead Clash x y = x
 
 -- where the part shown begins, of lists that begin at px and py: in the list that is ahead, past what the two have in common; for level and clash,
 -- where the part is empty, in the first
-abbrev pub placeOf : List ℕ → List ℕ → ℕ × ℕ → ℕ × ℕ → ℕ × ℕ
-placeOf x y px py = past (sharedOf x y) (ofAhead (differenceOf x y) px py)
+abbrev pub shownAt : List ℕ → List ℕ → ℕ × ℕ → ℕ × ℕ → ℕ × ℕ
+shownAt x y px py = past (sharedOf x y) (ofAhead (differenceOf x y) px py)

@@ -3,7 +3,7 @@
 // of specs/Difference.antt; the laws about them, and `exchange` about words over any alphabet, are in proofs/.
 ghost use mathlib.Core.Path.{_≡_};
 ghost use denote.Ref.{ptr};
-ghost use Rattle.words.specs.Difference.{sharedOf, differenceOf, unmatchedOf, placeOf};
+ghost use Rattle.words.specs.Difference.{sharedOf, differenceOf, unmatchedOf, shownAt};
 
 // How two words compare once their common beginning is stripped.
 pub enum Comparison {
@@ -40,7 +40,7 @@ pub fn difference(x: &[u8], y: &[u8]) -> Comparison
 // The unmatched end of the longer word, as the part of x or y that it is (nothing is copied); the empty part where they are level or clash.
 pub fn unmatched<'a>(x: &'a [u8], y: &'a [u8]) -> &'a [u8]
     ensures { λ r. ⌜ now r ≡ unmatchedOf (now (x .entry)) (now (y .entry)) ⌝ }
-    ensures { λ r. ⌜ ptr r ≡ placeOf (now (x .entry)) (now (y .entry)) (ptr (x .entry)) (ptr (y .entry)) ⌝ }
+    ensures { λ r. ⌜ ptr r ≡ shownAt (now (x .entry)) (now (y .entry)) (ptr (x .entry)) (ptr (y .entry)) ⌝ }
 {
     let n = shared(x, y);
     if n < y.len() {
