@@ -1,0 +1,173 @@
+"""The subcommands, as one table, and the main function."""
+
+import argparse
+import os
+import sys
+from typing import Callable, NamedTuple
+
+from . import picture, refusals, table, words
+from .library import FILE, VARIABLE, Library
+from .refusals import Failed, Refused
+
+DONE, SPLIT, REFUSED = 0, 1, 2
+
+
+def read_file(name):
+    """The file's first 13,203 bytes: the library refuses what is longer."""
+    try:
+        with open(name, "rb") as opened:
+            return opened.read(FILE + 1)
+    except OSError as error:
+        raise Failed(f"cannot read {name}: {error.strerror}") from error
+
+
+def complain(text):
+    """A line on standard error. Where that takes nothing either, the exit status is all that is left."""
+    try:
+        print(text, file=sys.stderr, flush=True)
+    except OSError:
+        pass
+
+
+def write_file(name, content):
+    try:
+        with open(name, "wb") as opened:
+            opened.write(content)
+    except OSError as error:
+        raise Failed(f"cannot write {name}: {error.strerror}") from error
+
+
+# --- the subcommands: each returns its exit status and what it prints, line by line -------------------------------------
+
+
+def check(library, options, content):
+    library.check(content)
+    return DONE, [words.taken(options.file, content, table.parse(content))]
+
+
+def verdict(library, options, content):
+    useful, witness = library.verdict(content)
+    if witness is None:
+        return DONE, [f"single: every input word has one output at most (u = {useful:,})"]
+    difference = library.difference(witness.output_x, witness.output_y)
+    return SPLIT, words.split(table.parse(content), useful, witness, difference, options.all)
+
+
+def translate(library, options, content):
+    output = library.translate(content, options.codes)
+    if library.verdict(content)[1] is not None:
+        complain(f"note: {options.file} is split, so another unit may write another output for this word")
+    return DONE, [" ".join(map(str, output))]
+
+
+def useful(library, options, content):
+    flags = library.useful_states(content)
+    count, partners = library.useful_pairs(content)
+    return DONE, words.useful(table.parse(content), flags, count, partners)
+
+
+def draw(library, options, content):
+    count, witness = library.verdict(content)
+    read = table.parse(content)
+    text = picture.graph(options.file, read, library.useful_states(content), count, witness)
+    write_file(options.out, picture.rendered(text, options.out.rpartition(".")[2]))
+    said = "split, path A blue, path B orange" if witness else "single"
+    return DONE, [f"{options.out}: drawn: {words.counted(read.states, 'state')}, {words.counted(len(read.lines), 'line')}, {said}"]
+
+
+# --- their arguments -------------------------------------------------------------------------------------------------
+
+
+def code(text):
+    """A code as the library takes it, in one byte; which bytes are input codes is for the library to say."""
+    if not (text.isascii() and text.isdigit() and int(text) <= 255):
+        raise argparse.ArgumentTypeError(f"{text!r} is no code: codes are numbers from 1 to 250")
+    return int(text)
+
+
+def picture_name(text):
+    if text.rpartition(".")[2] not in picture.FORMATS or "." not in text:
+        raise argparse.ArgumentTypeError(f"{text!r} must end in .{', .'.join(picture.FORMATS)}")
+    return text
+
+
+def verdict_arguments(parser):
+    parser.add_argument("--all", action="store_true", help="print long lists whole")
+
+
+def translate_arguments(parser):
+    parser.add_argument("codes", metavar="CODE", nargs="*", type=code, help="the codes of the input word, 1 to 250 each; none for the empty word")
+
+
+def draw_arguments(parser):
+    parser.add_argument("-o", dest="out", metavar="PICTURE", type=picture_name, required=True,
+                        help=f"where the picture goes; its name ends in .{', .'.join(picture.FORMATS)}")
+
+
+class Command(NamedTuple):
+    run: Callable
+    help: str
+    more: str
+    arguments: Callable = lambda parser: None
+
+
+COMMANDS = {
+    "check": Command(check, "is this a table file?", "Exit status: 0 it is, 2 refused."),
+    "verdict": Command(verdict, "has every input word one output at most?",
+                       "Exit status: 0 single, 1 split, 2 refused. A split is shown: the input word, the two paths, where they part, and "
+                       "which lines write what. Lines are counted from 0 in the order of the file.", verdict_arguments),
+    "translate": Command(translate, "the output of an input word", "Exit status: 0 done, 2 refused.", translate_arguments),
+    "useful": Command(useful, "the useful states and the useful pairs of states", "Exit status: 0 done, 2 refused."),
+    "draw": Command(draw, "the table as a picture, a split with its two paths",
+                    "Exit status: 0 drawn, 2 refused or not drawn. Needs Graphviz (Debian: graphviz) for all but .dot, the graph's text. "
+                    "Path A is blue, path B orange.", draw_arguments),
+}
+
+
+def make_parser():
+    parser = argparse.ArgumentParser(
+        prog="yotselina", description="Asks the Yotselina library about a table file.",
+        epilog=f"Errors go to standard error with exit status 2. {VARIABLE} or --library names the library (a shared object); else it is made "
+               "from target/staticlib/libunit.a (by `rt staticlib unit`) on first use. `yotselina COMMAND --help` says more.")
+    commands = parser.add_subparsers(dest="command", metavar="COMMAND", required=True)
+    for name, command in COMMANDS.items():
+        one = commands.add_parser(name, help=command.help, description=f"{name}: {command.help}", epilog=command.more)
+        one.add_argument("file", metavar="FILE", help="the table file")
+        command.arguments(one)
+        one.add_argument("--library", metavar="SO", help=f"the library as a shared object (else {VARIABLE}, else that of the build)")
+    return parser
+
+
+# --- running ---------------------------------------------------------------------------------------------------------
+
+
+def run(options):
+    """Runs the subcommand. What it cannot do and what the library refuses is said on standard error, with exit status 2."""
+    content = b""
+    try:
+        content = read_file(options.file)
+        return COMMANDS[options.command].run(Library(options.library), options, content)
+    except Failed as failed:
+        complain(f"yotselina: {failed}")
+    except Refused as refused:
+        complain(refusals.in_words(refused, options.file, content))
+    return REFUSED, []
+
+
+def put(lines):
+    """Prints the lines; says so where standard output does not take them."""
+    try:
+        for line in lines:
+            print(line)
+        sys.stdout.flush()
+        return True
+    except OSError as error:
+        os.dup2(os.open(os.devnull, os.O_WRONLY), sys.stdout.fileno())
+        complain(f"yotselina: cannot write standard output: {error.strerror}")
+        return False
+
+
+def main(arguments):
+    """Returns the exit status."""
+    status, lines = run(make_parser().parse_args(arguments))
+    return status if put(lines) else REFUSED

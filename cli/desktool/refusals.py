@@ -1,0 +1,69 @@
+"""The refusal numbers in words: cause and cure, as in the table of docs/MANUAL.md (tests/desk.py holds the two against each other)."""
+
+from typing import NamedTuple
+
+
+class Failed(Exception):
+    """What the tool could not do, in words for its user."""
+
+
+class Refused(Exception):
+    """A refusal of the library: its number, and the record of the file where it is the file's."""
+
+    def __init__(self, number, record):
+        super().__init__(number, record)
+        self.number = number
+        self.record = record
+
+
+class Words(NamedTuple):
+    of_file: bool  # the refusal has a record
+    cause: str
+    cure: str
+
+
+WORDS = {
+    1: Words(True, "the text ends inside a record or before it", "complete the file: the counts of `T` say how many records follow"),
+    2: Words(True, "a wrong letter, or no byte 10 at the record's end",
+             "put the letter or the line end right; no spaces at the end of a line"),
+    3: Words(True, "a field is not a number", "right-justify the number in its four columns, with spaces in front and no leading zero"),
+    4: Words(True, "a field is outside its range",
+             "n is 1 to 32, a state 0 to n - 1, k at most 256, an input 0 to 250, a count of outputs 0 to 8, an output 1 to 250"),
+    5: Words(True, "the states of `S` or `F` records do not rise", "sort them, each once"),
+    6: Words(True, "bytes follow the last record", "remove them, or correct the counts of `T`"),
+    7: Words(False, "a buffer is too short: for the result (writer, translator); the verdict: a buffer below its size, whatever the outcome "
+             "would be",
+             "lend a longer one: 13,202 bytes hold any file, 65,528 places any output; the verdict takes 2,047 for the word and each path, "
+             "16,376 for each output"),
+    8: Words(False, "a table value breaks a rule of document 01", "make tables by reading files"),
+    9: Words(False, "the input word has over 255 codes",
+             "use a shorter word; its parts are other words, which the table may not read or may translate otherwise"),
+    10: Words(False, "an input code is 0 or over 250", "codes are 1 to 250"),
+    11: Words(False, "no accepting path reads the input word", "the table has no output for it"),
+    12: Words(True, "the file has over 13,202 bytes", "no table needs as many"),
+    100: Words(False, "the library's list `answer` is too short", "lend as many places as include/yotselina.h names for the call"),
+}
+UNKNOWN = Words(False, "a number that this tool does not know", "see docs/MANUAL.md of the library's own version")
+LONGEST_SHOWN = 72  # bytes of a faulty line that are shown
+
+
+def shown(content, line):
+    """A line of the file for a reader, the first counted as 1; what is not plain text is escaped."""
+    lines = content.split(b"\n")
+    if line > len(lines) or line == len(lines) and not lines[-1]:
+        return "(the file ends before this line)"
+    text = lines[line - 1]
+    plain = "".join(chr(byte) if 32 <= byte < 127 else f"\\x{byte:02x}" for byte in text[:LONGEST_SHOWN])
+    return f"{plain} .." if len(text) > LONGEST_SHOWN else plain
+
+
+def in_words(refused, name, content):
+    """What a refusal means: number, record, the file's line with its text, cause and cure. Each record is one line, so record 0 is line 1."""
+    words = WORDS.get(refused.number, UNKNOWN)
+    if words.of_file:
+        line = refused.record + 1
+        head = [f"{name}:{line}: refused with number {refused.number}, record {refused.record} (line {line} of the file):",
+                f"    {shown(content, line)}"]
+    else:
+        head = [f"{name}: refused with number {refused.number}:"]
+    return "\n".join(head + [f"cause: {words.cause}", f"cure:  {words.cure}"])

@@ -1,0 +1,223 @@
+/*
+ * yotselina.h - the library that a unit links
+ *
+ * NAME
+ *   yotselina - a transducer table: its verdict, its translations, its useful states
+ *
+ * SYNOPSIS
+ *   #include "yotselina.h"
+ *   cc -Iinclude program.c target/staticlib/libunit.a        (`rt staticlib unit` writes the archive: x86-64 Linux)
+ *
+ * WHAT IS LENT
+ *   A list is lent as a pointer and then the number of its places (not of its bytes). A table is lent as the bytes of its table file,
+ *   whose form docs/MANUAL.md has. Everything that a call answers goes into lists that the caller lends; an answer of several numbers goes
+ *   into the list `answer`.
+ *
+ * RETURN VALUE
+ *   0: done. Otherwise the call is refused: YOTSELINA_NUMBER(r) is the number below, YOTSELINA_RECORD(r) the record of the file in which
+ *   the fault is, counted from 0 for `T` (0 where the refusal is not the file's).
+ *
+ *     1    the text ends inside a record or before it
+ *     2    a wrong letter, or no byte 10 at the record's end
+ *     3    a field is not a number
+ *     4    a field is outside its range
+ *     5    the states of `S` or `F` records do not rise
+ *     6    bytes follow the last record
+ *     7    a lent list is too short: for the result (yotselina_translate, yotselina_write), else below its size
+ *     9    the input word has over 255 codes
+ *     10   an input code is 0 or over 250
+ *     11   no accepting path reads the input word
+ *     12   the file has over 13,202 bytes
+ *     100  the list `answer` is too short
+ *
+ *   Checked in this order: 100; the file's refusals, from left to right: 1 to 6, then 12; then those of the call, in the order that stands
+ *   with it. docs/MANUAL.md has a cure for each. (8 is for table values that were not read from a file, and does not come from here.)
+ *
+ * WHAT IS LEFT UNCHANGED
+ *   A refused call changes nothing of what is lent, `answer` included. A call that is done changes only what it says that it writes: places
+ *   beyond that hold what they held. A const list is never changed.
+ *
+ * WHAT THE CALLER OWES
+ *   What C cannot check, and so what no proof of the library can answer for:
+ *   - each pointer is aligned for its type and leads to at least as many places as the length after it says, readable, and writable where
+ *     it is not const; with length 0 nothing is read or written through it;
+ *   - no list that is not const overlaps any other list of the same call; const lists may overlap;
+ *   - nothing else writes to a lent list, or reads one that is not const, until the call returns;
+ *   - the stack has room for the call: YOTSELINA_STACK bytes are enough for any.
+ *   Nothing else is required: any bytes, any lengths.
+ *
+ * STATE, MEMORY AND THREADS
+ *   Calls keep no state, use no heap, open no file, and depend on nothing but what is lent. They may run in several threads at once, and may
+ *   be left by no other way than returning. Each call ends.
+ *
+ * PROOFS
+ *   Each call meets the contract that stands with it in crates/unit, for every input.
+ */
+#ifndef YOTSELINA_H
+#define YOTSELINA_H
+
+#include <stddef.h>
+#include <stdint.h>
+
+#ifdef __cplusplus
+extern "C" {
+#endif
+
+/* The number and the record of a refusal. */
+#define YOTSELINA_NUMBER(r) ((r) & 0xffff)
+#define YOTSELINA_RECORD(r) ((r) >> 16)
+
+/* The refusal of an `answer` that is too short; the other numbers are document 01's. */
+#define YOTSELINA_ANSWER_TOO_SHORT 100
+
+/* A table: at most so many states and lines (transitions), in a file of at most so many bytes. */
+#define YOTSELINA_STATES 32
+#define YOTSELINA_LINES 256
+#define YOTSELINA_FILE 13202
+
+/* The longest input word, and places that hold any output of one. */
+#define YOTSELINA_WORD 255
+#define YOTSELINA_OUTPUT 65528
+
+/* Places that the verdict takes: for the word and for each path, and for each output. */
+#define YOTSELINA_WITNESS 2047
+#define YOTSELINA_WITNESS_OUTPUT 16376
+
+/* The pairs of states. */
+#define YOTSELINA_PAIRS 1024
+
+/* Places of each answer list. */
+#define YOTSELINA_VERDICT_ANSWER 7
+#define YOTSELINA_TRANSLATE_ANSWER 1
+#define YOTSELINA_PAIRS_ANSWER 1
+#define YOTSELINA_DIFFERENCE_ANSWER 2
+#define YOTSELINA_WRITE_ANSWER 1
+
+/* The kinds of a difference. */
+#define YOTSELINA_LEVEL 0
+#define YOTSELINA_FIRST_AHEAD 1
+#define YOTSELINA_SECOND_AHEAD 2
+#define YOTSELINA_CLASH 3
+
+/* Bytes of stack that are enough for any call (measured; the next figure is rounded up). */
+#define YOTSELINA_STACK 0
+
+/*
+ * yotselina_check - is this a table file?
+ *
+ *   file, file_length   the bytes of the file
+ *
+ * Returns 0 if the file is taken. Refusals: 1 to 6, 12, each with its record.
+ * Writes nothing.
+ */
+uint32_t yotselina_check(const uint8_t *file, size_t file_length);
+
+/*
+ * yotselina_verdict - has every input word one output at most?
+ *
+ *   file, file_length   the bytes of the table file
+ *   word                at least YOTSELINA_WITNESS places
+ *   path_a, path_b      at least YOTSELINA_WITNESS places each
+ *   output_x, output_y  at least YOTSELINA_WITNESS_OUTPUT places each
+ *   answer              at least YOTSELINA_VERDICT_ANSWER places:
+ *                       [0] 0 single, 1 split
+ *                       [1] u, the number of useful pairs of states, 0 to 1,024
+ *                       [2] to [6] how many items are written to word, path_a, path_b, output_x, output_y; 0 for single
+ *
+ * Split: there is an input word with two accepting paths that write different outputs. One such is shown: `word` has its codes, `path_a` and
+ * `path_b` the numbers of the two paths' lines (from 0 in the order of the file), `output_x` and `output_y` what they write. Word and paths
+ * have at most 2u - 1 items; path_a stands before path_b in dictionary order, a list before its own extensions.
+ * Single: there is no such word, however long. Only `answer` is written.
+ *
+ * Refusals: 100; 1 to 6, 12 with the record; 7 if any of the five lists is below its size, whatever the verdict would be.
+ */
+uint32_t yotselina_verdict(const uint8_t *file, size_t file_length,
+                           uint8_t *word, size_t word_length,
+                           uint16_t *path_a, size_t path_a_length,
+                           uint16_t *path_b, size_t path_b_length,
+                           uint8_t *output_x, size_t output_x_length,
+                           uint8_t *output_y, size_t output_y_length,
+                           uint64_t *answer, size_t answer_length);
+
+/*
+ * yotselina_translate - the output of an input word
+ *
+ *   file, file_length    the bytes of the table file
+ *   input, input_length  the codes of the input word: at most YOTSELINA_WORD, each 1 to 250; it may be empty
+ *   output               where the output goes; YOTSELINA_OUTPUT places hold any
+ *   answer               at least YOTSELINA_TRANSLATE_ANSWER places:
+ *                        [0] how many codes are written to output
+ *
+ * Writes what an accepting path that reads the word writes. If the table is single, all such paths write the same; if it is split, which path
+ * is not settled, and 7 is then given only if some output of the word does not fit.
+ *
+ * Refusals: 100; 1 to 6, 12 with the record; 9, 10, 11; 7 if the output does not fit, never with YOTSELINA_OUTPUT places.
+ */
+uint32_t yotselina_translate(const uint8_t *file, size_t file_length,
+                             const uint8_t *input, size_t input_length,
+                             uint8_t *output, size_t output_length,
+                             uint64_t *answer, size_t answer_length);
+
+/*
+ * yotselina_useful_states - the states that an accepting path passes through
+ *
+ *   file, file_length   the bytes of the table file
+ *   flags               at least YOTSELINA_STATES places: flag q is 1 if state q is useful, else 0 (also where the table has no state q)
+ *
+ * Refusals: 1 to 6, 12 with the record; 7 if flags has fewer than YOTSELINA_STATES places.
+ */
+uint32_t yotselina_useful_states(const uint8_t *file, size_t file_length, uint8_t *flags, size_t flags_length);
+
+/*
+ * yotselina_useful_pairs - the pairs of states that two accepting paths which read the same word pass through together
+ *
+ *   file, file_length   the bytes of the table file
+ *   flags               at least YOTSELINA_PAIRS places: flag 32 p + q is 1 if the pair (p, q) is useful, else 0
+ *   answer              at least YOTSELINA_PAIRS_ANSWER places:
+ *                       [0] u, how many pairs are useful
+ *
+ * Order counts: (p, q) and (q, p) are two pairs. p may equal q.
+ *
+ * Refusals: 100; 1 to 6, 12 with the record; 7 if flags has fewer than YOTSELINA_PAIRS places.
+ */
+uint32_t yotselina_useful_pairs(const uint8_t *file, size_t file_length,
+                                uint8_t *flags, size_t flags_length,
+                                uint64_t *answer, size_t answer_length);
+
+/*
+ * yotselina_difference - where two lists of codes part
+ *
+ *   x, x_length    the first list, of any length and any bytes
+ *   y, y_length    the second list
+ *   answer         at least YOTSELINA_DIFFERENCE_ANSWER places:
+ *                  [0] YOTSELINA_LEVEL (the lists are the same), YOTSELINA_FIRST_AHEAD (y is a beginning of x, which goes on),
+ *                      YOTSELINA_SECOND_AHEAD (x is a beginning of y, which goes on), YOTSELINA_CLASH (they part before either ends)
+ *                  [1] how many codes the two have in common at the beginning; so where the unmatched end of the longer one begins
+ *
+ * Refusals: 100.
+ */
+uint32_t yotselina_difference(const uint8_t *x, size_t x_length,
+                              const uint8_t *y, size_t y_length,
+                              uint64_t *answer, size_t answer_length);
+
+/*
+ * yotselina_write - the file's table, read and written again
+ *
+ *   file, file_length   the bytes of the table file
+ *   out                 where the written file goes; YOTSELINA_FILE places hold any
+ *   answer              at least YOTSELINA_WRITE_ANSWER places:
+ *                       [0] how many bytes are written to out
+ *
+ * What is written is what was read, byte for byte.
+ *
+ * Refusals: 100; 1 to 6, 12 with the record; 7 if the written file does not fit.
+ */
+uint32_t yotselina_write(const uint8_t *file, size_t file_length,
+                         uint8_t *out, size_t out_length,
+                         uint64_t *answer, size_t answer_length);
+
+#ifdef __cplusplus
+}
+#endif
+
+#endif
