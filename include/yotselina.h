@@ -40,10 +40,10 @@
  * WHAT THE CALLER OWES
  *   What C cannot check, and so what no proof of the library can answer for:
  *   - each pointer is aligned for its type and leads to at least as many places as the length after it says, readable, and writable where
- *     it is not const; with length 0 nothing is read or written through it;
+ *     it is not const; with length 0 nothing is read or written through it, and it may be null;
  *   - no list that is not const overlaps any other list of the same call; const lists may overlap;
  *   - nothing else writes to a lent list, or reads one that is not const, until the call returns;
- *   - the stack has room for the call: YOTSELINA_STACK bytes are enough for any.
+ *   - the stack has room for what the call says; YOTSELINA_STACK bytes are enough for any call.
  *   Nothing else is required: any bytes, any lengths.
  *
  * STATE, MEMORY AND THREADS
@@ -99,8 +99,8 @@ extern "C" {
 #define YOTSELINA_SECOND_AHEAD 2
 #define YOTSELINA_CLASH 3
 
-/* Bytes of stack that are enough for any call (measured; the next figure is rounded up). */
-#define YOTSELINA_STACK 0
+/* Bytes of stack that are enough for any call; what each takes stands with it (rounded up from what the archive's code reserves). */
+#define YOTSELINA_STACK 163840
 
 /*
  * yotselina_check - is this a table file?
@@ -109,6 +109,7 @@ extern "C" {
  *
  * Returns 0 if the file is taken. Refusals: 1 to 6, 12, each with its record.
  * Writes nothing.
+ * Stack: 20,480 bytes.
  */
 uint32_t yotselina_check(const uint8_t *file, size_t file_length);
 
@@ -130,6 +131,7 @@ uint32_t yotselina_check(const uint8_t *file, size_t file_length);
  * Single: there is no such word, however long. Only `answer` is written.
  *
  * Refusals: 100; 1 to 6, 12 with the record; 7 if any of the five lists is below its size, whatever the verdict would be.
+ * Stack: 131,072 bytes.
  */
 uint32_t yotselina_verdict(const uint8_t *file, size_t file_length,
                            uint8_t *word, size_t word_length,
@@ -152,6 +154,7 @@ uint32_t yotselina_verdict(const uint8_t *file, size_t file_length,
  * is not settled, and 7 is then given only if some output of the word does not fit.
  *
  * Refusals: 100; 1 to 6, 12 with the record; 9, 10, 11; 7 if the output does not fit, never with YOTSELINA_OUTPUT places.
+ * Stack: 163,840 bytes.
  */
 uint32_t yotselina_translate(const uint8_t *file, size_t file_length,
                              const uint8_t *input, size_t input_length,
@@ -165,6 +168,7 @@ uint32_t yotselina_translate(const uint8_t *file, size_t file_length,
  *   flags               at least YOTSELINA_STATES places: flag q is 1 if state q is useful, else 0 (also where the table has no state q)
  *
  * Refusals: 1 to 6, 12 with the record; 7 if flags has fewer than YOTSELINA_STATES places.
+ * Stack: 32,768 bytes.
  */
 uint32_t yotselina_useful_states(const uint8_t *file, size_t file_length, uint8_t *flags, size_t flags_length);
 
@@ -179,6 +183,7 @@ uint32_t yotselina_useful_states(const uint8_t *file, size_t file_length, uint8_
  * Order counts: (p, q) and (q, p) are two pairs. p may equal q.
  *
  * Refusals: 100; 1 to 6, 12 with the record; 7 if flags has fewer than YOTSELINA_PAIRS places.
+ * Stack: 65,536 bytes.
  */
 uint32_t yotselina_useful_pairs(const uint8_t *file, size_t file_length,
                                 uint8_t *flags, size_t flags_length,
@@ -195,6 +200,7 @@ uint32_t yotselina_useful_pairs(const uint8_t *file, size_t file_length,
  *                  [1] how many codes the two have in common at the beginning; so where the unmatched end of the longer one begins
  *
  * Refusals: 100.
+ * Stack: 4,096 bytes.
  */
 uint32_t yotselina_difference(const uint8_t *x, size_t x_length,
                               const uint8_t *y, size_t y_length,
@@ -211,6 +217,7 @@ uint32_t yotselina_difference(const uint8_t *x, size_t x_length,
  * What is written is what was read, byte for byte.
  *
  * Refusals: 100; 1 to 6, 12 with the record; 7 if the written file does not fit.
+ * Stack: 32,768 bytes.
  */
 uint32_t yotselina_write(const uint8_t *file, size_t file_length,
                          uint8_t *out, size_t out_length,

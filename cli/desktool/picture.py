@@ -6,7 +6,7 @@ import subprocess
 from typing import NamedTuple
 
 from .refusals import Failed
-from .words import listed
+from .words import lines_listed, listed
 
 A_COLOUR, B_COLOUR, GREY = "#0072b2", "#d55e00", "#999999"
 FORMATS = ("svg", "png", "pdf", "dot")
@@ -77,9 +77,9 @@ def arrows(table, flags, witness):
             told += [row(line, drawn.words) for line in lines]
             words = "<" + "".join(told) + ">" if source != target or place == len(by_name) else ""
             told = told if source == target else []
-            numbers = " ".join(str(line.number) for line in lines)
+            numbers = [line.number for line in lines]
             yield f"s{source} -> s{target} " + attributes(**{"id": f"arrow-{source}-{target}-{place}", "class": drawn.name, "label": words,
-                                                             "tooltip": f"lines {numbers}", "color": drawn.colour}, **drawn.more)
+                                                             "tooltip": lines_listed(numbers), "color": drawn.colour}, **drawn.more)
 
 
 def caption(name, useful, witness):
@@ -88,16 +88,15 @@ def caption(name, useful, witness):
     if witness:
         rows.append(f"word {listed(witness.word, False)}" if witness.word else "the empty word")
         for path, lines, output, colour in (("A", witness.path_a, witness.output_x, A_COLOUR), ("B", witness.path_b, witness.output_y, B_COLOUR)):
-            taken = f"lines {listed(lines, False)}" if lines else "no line"
-            rows.append(f'<font color="{colour}">path {path}: {taken}, writes {listed(output, False)}</font>')
-    rows.append(f'<font color="{GREY}" point-size="10">on an arrow: the line, what it reads / what it writes ({NOTHING} nothing); '
-                "double ring: final; dashed: not useful</font>")
+            rows.append(f'<font color="{colour}">path {path}: {lines_listed(lines, False)}, writes {listed(output, False)}</font>')
+    for key in (f"on an arrow: line number, what it reads / what it writes ({NOTHING} nothing)", "double ring: final; dashed: not useful"):
+        rows.append(f'<font color="{GREY}" point-size="10">{key}</font>')
     return "<" + "<br/>".join(rows) + "<br/>>"
 
 
 def graph(name, table, flags, useful, witness):
     """The graph as text: a node for each state, arrows for the lines, an arrow into each start state."""
-    body = ["rankdir=LR", 'node [fontname="Helvetica", fontsize=13, width=0.6]', 'edge [fontname="Helvetica", fontsize=11, arrowsize=0.7]',
+    body = ["rankdir=LR", "pad=0.2", 'node [fontname="Helvetica", fontsize=13, width=0.6]', 'edge [fontname="Helvetica", fontsize=11, arrowsize=0.7]',
             'fontname="Helvetica"', "fontsize=12", "labelloc=b", "forcelabels=true", f"label={caption(name, useful, witness)}"]
     body += [state_node(table, flags, state) for state in range(table.states)]
     for state in table.starts:

@@ -31,10 +31,10 @@ WORDS = {
              "n is 1 to 32, a state 0 to n - 1, k at most 256, an input 0 to 250, a count of outputs 0 to 8, an output 1 to 250"),
     5: Words(True, "the states of `S` or `F` records do not rise", "sort them, each once"),
     6: Words(True, "bytes follow the last record", "remove them, or correct the counts of `T`"),
-    7: Words(False, "a buffer is too short: for the result (writer, translator); the verdict: a buffer below its size, whatever the outcome "
-             "would be",
+    7: Words(False, "a buffer is too short: for the result (writer, translator); else (verdict, useful states and pairs) below its size, whatever "
+             "the outcome would be",
              "lend a longer one: 13,202 bytes hold any file, 65,528 places any output; the verdict takes 2,047 for the word and each path, "
-             "16,376 for each output"),
+             "16,376 for each output; useful states take 32 flags, useful pairs 1,024"),
     8: Words(False, "a table value breaks a rule of document 01", "make tables by reading files"),
     9: Words(False, "the input word has over 255 codes",
              "use a shorter word; its parts are other words, which the table may not read or may translate otherwise"),

@@ -21,6 +21,11 @@ def listed(items, every=True):
     return " ".join(items) or "nothing"
 
 
+def lines_listed(path, every=True):
+    """A path: the numbers of its lines."""
+    return f"{'line' if len(path) == 1 else 'lines'} {listed(path, every)}" if path else "no line"
+
+
 def wrapped(head, text):
     """A head of nine columns and the text beside it."""
     return textwrap.wrap(text, WIDTH, initial_indent=head.ljust(9), subsequent_indent=" " * 9, break_on_hyphens=False)
@@ -96,7 +101,7 @@ def split(table, useful, witness, difference, every):
     said = [f"split: one input word, two paths, two outputs (u = {useful:,})", ""]
     said += wrapped("word", listed(witness.word, every) if witness.word else "the empty word")
     for name, path, output in (("A", witness.path_a, witness.output_x), ("B", witness.path_b, witness.output_y)):
-        said += wrapped(f"path {name}", f"lines {listed(path, every)}" if path else "no line")
+        said += wrapped(f"path {name}", lines_listed(path, every))
         said += wrapped("  writes", listed(output, every))
     said += ["", *textwrap.wrap(where_paths_part(table, witness.path_a, witness.path_b), WIDTH),
              *textwrap.wrap(where_outputs_part(table, witness, difference), WIDTH), ""]

@@ -1,0 +1,94 @@
+/*
+ * How much stack each call takes: it runs on a stack of its own that was painted before, and the deepest byte that lost its colour tells.
+ * Prints a line for each call: its name and the bytes. The argument is the table file; its input word is as many ones as a word may have.
+ */
+#define _XOPEN_SOURCE 700
+#include <stdio.h>
+#include <stdlib.h>
+#include <string.h>
+#include <ucontext.h>
+
+#include "yotselina.h"
+
+#define ROOM (1 << 20)
+#define PAINT 0xa5
+
+static unsigned char room[ROOM];
+static uint8_t file[YOTSELINA_FILE + 1];
+static size_t length;
+static uint8_t word[YOTSELINA_WITNESS], flags[YOTSELINA_PAIRS], out[YOTSELINA_FILE];
+static uint16_t path_a[YOTSELINA_WITNESS], path_b[YOTSELINA_WITNESS];
+static uint8_t output_x[YOTSELINA_WITNESS_OUTPUT], output_y[YOTSELINA_WITNESS_OUTPUT], output[YOTSELINA_OUTPUT], input[YOTSELINA_WORD];
+static uint64_t answer[YOTSELINA_VERDICT_ANSWER];
+static uint32_t returned;
+static ucontext_t here, there;
+
+static void nothing(void) { returned = 0; }
+static void check(void) { returned = yotselina_check(file, length); }
+static void verdict(void)
+{
+    returned = yotselina_verdict(file, length, word, sizeof word, path_a, YOTSELINA_WITNESS, path_b, YOTSELINA_WITNESS,
+                                 output_x, sizeof output_x, output_y, sizeof output_y, answer, YOTSELINA_VERDICT_ANSWER);
+}
+static void translate(void)
+{
+    returned = yotselina_translate(file, length, input, sizeof input, output, sizeof output, answer, YOTSELINA_TRANSLATE_ANSWER);
+}
+static void useful_states(void) { returned = yotselina_useful_states(file, length, flags, sizeof flags); }
+static void useful_pairs(void)
+{
+    returned = yotselina_useful_pairs(file, length, flags, sizeof flags, answer, YOTSELINA_PAIRS_ANSWER);
+}
+static void difference(void)
+{
+    returned = yotselina_difference(file, length, file, length, answer, YOTSELINA_DIFFERENCE_ANSWER);
+}
+static void rewrite(void) { returned = yotselina_write(file, length, out, sizeof out, answer, YOTSELINA_WRITE_ANSWER); }
+
+/* The bytes of stack that a call takes. */
+static size_t deepest(void (*call)(void))
+{
+    size_t left = 0;
+    memset(room, PAINT, ROOM);
+    getcontext(&there);
+    there.uc_stack.ss_sp = room;
+    there.uc_stack.ss_size = ROOM;
+    there.uc_link = &here;
+    makecontext(&there, call, 0);
+    swapcontext(&here, &there);
+    while (left < ROOM && room[left] == PAINT)
+        left++;
+    return ROOM - left;
+}
+
+static void measure(const char *name, void (*call)(void), size_t itself)
+{
+    size_t bytes = deepest(call);
+    if (returned != 0) {
+        fprintf(stderr, "%s: refused with number %u, record %u\n", name, (unsigned)YOTSELINA_NUMBER(returned), (unsigned)YOTSELINA_RECORD(returned));
+        exit(2);
+    }
+    printf("%s %lu\n", name, (unsigned long)(bytes - itself));
+}
+
+int main(int count, char **arguments)
+{
+    FILE *stream = count == 2 ? fopen(arguments[1], "rb") : NULL;
+    size_t itself;
+    if (stream == NULL) {
+        fprintf(stderr, "usage: stack FILE\n");
+        return 2;
+    }
+    length = fread(file, 1, sizeof file, stream);
+    fclose(stream);
+    memset(input, 1, sizeof input);
+    itself = deepest(nothing);
+    measure("yotselina_check", check, itself);
+    measure("yotselina_verdict", verdict, itself);
+    measure("yotselina_translate", translate, itself);
+    measure("yotselina_useful_states", useful_states, itself);
+    measure("yotselina_useful_pairs", useful_pairs, itself);
+    measure("yotselina_difference", difference, itself);
+    measure("yotselina_write", rewrite, itself);
+    return 0;
+}
