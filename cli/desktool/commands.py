@@ -67,6 +67,8 @@ def useful(library, options, content):
 
 
 def draw(library, options, content):
+    if os.path.exists(options.out) and os.path.samefile(options.out, options.file):
+        raise Failed(f"{options.out} is the table file itself: choose another name for the picture")
     count, witness = library.verdict(content)
     read = table.parse(content)
     text = picture.graph(options.file, read, library.useful_states(content), count, witness)
@@ -157,6 +159,7 @@ def run(options):
 def put(lines):
     """Prints the lines; says so where standard output does not take them."""
     try:
+        sys.stdout.reconfigure(errors="backslashreplace")  # a file's name may have any bytes
         for line in lines:
             print(line)
         sys.stdout.flush()

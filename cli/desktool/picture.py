@@ -107,14 +107,15 @@ def graph(name, table, flags, useful, witness):
 
 def rendered(text, form):
     """The picture's bytes in one of the FORMATS."""
+    text = text.encode("utf-8", errors="replace")
     if form == "dot":
-        return text.encode("utf-8")
+        return text
     program = shutil.which("dot")
     if program is None:
         raise Failed("Graphviz is not here (no program dot): install it (Debian: apt-get install graphviz),\n"
                      "or write the graph's text alone with a name that ends in .dot")
     try:
-        done = subprocess.run([program, f"-T{form}"], input=text.encode("utf-8"), capture_output=True, check=False)
+        done = subprocess.run([program, f"-T{form}"], input=text, capture_output=True, check=False)
     except OSError as error:
         raise Failed(f"Graphviz ({program}) cannot be run: {error}") from error
     if done.returncode != 0 or not done.stdout:
