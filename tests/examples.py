@@ -80,6 +80,9 @@ def try_stack(folder, findings):
     faults += [f"{name} takes {taken.get(name)} bytes of stack, and the header says {promised.get(name)}"
                for name in sorted(taken.keys() | promised.keys()) if not 0 < taken.get(name, 0) <= promised.get(name, 0)]
     faults += faults_where((f"#define YOTSELINA_STACK {max(promised.values(), default=0)}\n" in header, "YOTSELINA_STACK is not the largest"))
+    manual = text_of("docs", "MANUAL.md")
+    faults += [f"docs/MANUAL.md has another figure for {name}" for name, most in promised.items()
+               if not re.search(rf"^\| `{name}` \|.*\| {most:,} \|$", manual, re.MULTILINE)]
     findings.check("header", faults, b"", "stack")
 
 

@@ -64,22 +64,24 @@ def row(line, colour):
     return f'<font color="{colour}">{line.number}: {line.input or NOTHING} / {written}</font><br align="left"/>'
 
 
-def arrows(table, flags, witness):
-    """One arrow for the lines that leave and enter the same states and look the same. Arrows from a state to itself lie one in another, so the
-    outermost, which comes last, has the words of all."""
+def grouped(table, flags, witness):
+    """The lines by the states that they leave and enter, and these by how they look: lists of (look, lines)."""
     groups = {}
     for line in table.lines:
-        groups.setdefault((line.source, line.target), {}).setdefault(look(line, flags, witness).name, []).append(line)
-    for (source, target), by_name in groups.items():
-        told = []
-        for place, lines in enumerate(by_name.values(), 1):
-            drawn = look(lines[0], flags, witness)
-            told += [row(line, drawn.words) for line in lines]
-            words = "<" + "".join(told) + ">" if source != target or place == len(by_name) else ""
-            told = told if source == target else []
-            numbers = [line.number for line in lines]
-            yield f"s{source} -> s{target} " + attributes(**{"id": f"arrow-{source}-{target}-{place}", "class": drawn.name, "label": words,
-                                                             "tooltip": lines_listed(numbers), "color": drawn.colour}, **drawn.more)
+        drawn = look(line, flags, witness)
+        groups.setdefault((line.source, line.target), {}).setdefault(drawn.name, (drawn, []))[1].append(line)
+    return {states: list(by_look.values()) for states, by_look in groups.items()}
+
+
+def arrows(table, flags, witness):
+    """One arrow for lines that leave and enter the same states and look the same. Arrows from a state to itself lie one in another, so the outermost,
+    which comes last, has the words of all."""
+    for (source, target), looks in grouped(table, flags, witness).items():
+        for place, (drawn, lines) in enumerate(looks, 1):
+            told = [(drawn, lines)] if source != target else looks if place == len(looks) else []
+            words = "".join(row(line, drawn_as.words) for drawn_as, told_lines in told for line in told_lines)
+            look_of_arrow = {"class": drawn.name, "color": drawn.colour, "tooltip": lines_listed([line.number for line in lines]), **drawn.more}
+            yield f"s{source} -> s{target} " + attributes(id=f"arrow-{source}-{target}-{place}", label=f"<{words}>" if words else "", **look_of_arrow)
 
 
 def caption(name, useful, witness):

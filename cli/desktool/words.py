@@ -13,11 +13,11 @@ def counted(count, one, many=None):
 
 
 def listed(items, every=True):
-    """The items; of a long list its beginning and its end, with the count."""
+    """The items; of a long list its beginning and its end."""
     items = [str(item) for item in items]
     if not every and len(items) > SHOWN:
         half = SHOWN // 2
-        items = [*items[:half], "..", *items[-half:], f"({len(items):,} in all)"]
+        items = [*items[:half], f".. {len(items) - SHOWN:,} more ..", *items[-half:]]
     return " ".join(items) or "nothing"
 
 
