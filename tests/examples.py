@@ -1,4 +1,4 @@
-"""What others build on the library with: the header, its promise about the stack, and the examples."""
+"""What others build on the library with: the header's sizes, its promise about the stack, and the examples (linked.py has the header itself)."""
 
 import re
 import shutil
@@ -13,6 +13,7 @@ from compare import as_codes, expected_translation, expected_verdict, faults_of_
 from desk import KINDS
 from deskanswers import faults_of_run, faults_where, numbers
 from library import compile_c, find_archive
+from linked import STRICT
 from listing import Refusal
 from programs import HANGS, ROOT, TIME_LIMIT
 from settings import share
@@ -23,11 +24,6 @@ sys.path.append(str(ROOT / "cli"))
 import desktool.library
 
 TABLES = 24  # generated tables that the examples are run on
-WARNINGS = ("-Wall", "-Wextra", "-Werror", "-pedantic", f"-I{ROOT / 'include'}")
-INCLUDES = """#include "yotselina.h"
-#include "yotselina.h"
-int main(void) { return YOTSELINA_NUMBER(yotselina_check(0, 0)) == 1 ? 0 : 1; }
-"""
 
 
 def text_of(*names):
@@ -44,15 +40,6 @@ def run_program(*words):
 
 
 # --- the header --------------------------------------------------------------------------------------------------------
-
-
-def try_header(folder, findings):
-    """C99 and C++ take the header with all warnings as errors, and link."""
-    for compiler, standard, ending in (("gcc", "c99", "c"), ("gcc", "c17", "c"), ("g++", "c++98", "cc"), ("g++", "c++20", "cc")):
-        source = folder / f"include.{ending}"
-        source.write_text(INCLUDES, encoding="ascii")
-        complaint = compile_c(compiler, f"-std={standard}", *WARNINGS, "-o", folder / "include", source, find_archive())
-        findings.check("header", [complaint] if complaint else faults_of_run(run_program(folder / "include"), 0), b"", f"{compiler} {standard}")
 
 
 def try_sizes(_, findings):
@@ -72,7 +59,7 @@ def try_stack(folder, findings):
     promised = {name: int(number.replace(",", "")) for number, name in promises}
     transducer, _, _ = cases.longest_translation()
     (folder / "table").write_bytes(table_file(transducer))
-    complaint = compile_c("gcc", "-std=c99", *WARNINGS, "-o", folder / "stack", ROOT / "tests" / "stack.c", find_archive())
+    complaint = compile_c("gcc", "-std=c99", *STRICT, "-o", folder / "stack", ROOT / "tests" / "stack.c", find_archive())
     run = (None, "", complaint) if complaint else run_program(folder / "stack", folder / "table")
     taken = {name: int(number) for name, number in re.findall(r"^(\w+) (\d+)$", run[1], re.MULTILINE)}
     print("  stack, bytes: " + ", ".join(f"{name.removeprefix('yotselina_')} {number:,}" for name, number in taken.items()))
@@ -92,7 +79,7 @@ def try_stack(folder, findings):
 def built_examples(folder, findings):
     """The example programs, built as their heads say, with warnings as errors: name and path of each."""
     archive, built = find_archive(), []
-    complaint = compile_c("gcc", "-std=c99", *WARNINGS, "-o", folder / "example-c", ROOT / "examples" / "table.c", archive)
+    complaint = compile_c("gcc", "-std=c99", *STRICT, "-o", folder / "example-c", ROOT / "examples" / "table.c", archive)
     commands = [("C", folder / "example-c", complaint)]
     if shutil.which("rustc") is None:
         findings.leave_out("the Rust example: no rustc")
@@ -166,5 +153,5 @@ def try_manual(_, findings):
 
 def run(findings):
     with tempfile.TemporaryDirectory() as folder:
-        for part in (try_header, try_sizes, try_stack, try_examples, try_manual):
+        for part in (try_sizes, try_stack, try_examples, try_manual):
             part(Path(folder), findings)
