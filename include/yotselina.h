@@ -47,8 +47,8 @@
  *   Nothing else is required: any bytes, any lengths.
  *
  * STATE, MEMORY AND THREADS
- *   Calls keep no state, use no heap, open no file, and depend on nothing but what is lent. They may run in several threads at once, and may
- *   be left by no other way than returning. Each call ends.
+ *   Calls keep no state, use no heap, open no file, and depend on nothing but what is lent. They may run in several threads at once. Each
+ *   call ends.
  *
  * PROOFS
  *   Each call meets the contract that stands with it in crates/unit, for every input.
