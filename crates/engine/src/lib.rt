@@ -99,7 +99,7 @@ pub fn translate_file(text: &[u8], input: &[u8], out: &mut [u8]) -> FileTranslat
 }
 
 // The number of the record at which a file was refused.
-fn record_number(outcome: Outcome) -> u16
+pub fn record_number(outcome: Outcome) -> u16
     ensures { λ r. ⌜ r ≡ recordOf outcome ⌝ }
 {
     match outcome {

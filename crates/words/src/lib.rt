@@ -51,7 +51,7 @@ pub fn unmatched<'a>(x: &'a [u8], y: &'a [u8]) -> &'a [u8]
 }
 
 // How many codes x and y have in common at the beginning.
-fn shared(x: &[u8], y: &[u8]) -> usize
+pub fn shared(x: &[u8], y: &[u8]) -> usize
     ensures { λ r. ⌜ r ≡ sharedOf (now (x .entry)) (now (y .entry)) ⌝ }
 {
     let mut i = 0;

@@ -1,0 +1,60 @@
+-- `put_judgement` meets its contract. Assumes nothing.
+use mathlib.Core.Path.{_∙_}
+use borrow.Author.Needs.{needs}
+use Rattle.unit.specs.Answers.{numbersOf}
+use Rattle.unit.proofs.Filling.{flag-byte}
+use Rattle.unit.proofs.answers.put_judgement.Statement.{statement}
+use Rattle.unit.proofs.answers.put_judgement.Tie as tie
+
+abbrev start : tie.After-slice-known2 → tie.Start
+start c = c .before .before .before .before .before .before .before .before .before .before .before .before .before .before
+
+cast-t5 : tie.Need-cast-t5
+cast-t5 c = search needs
+
+cast-t6 : tie.Need-cast-t6
+cast-t6 c = search needs
+
+cast-t7 : tie.Need-cast-t7
+cast-t7 c = search needs
+
+cast-t8 : tie.Need-cast-t8
+cast-t8 c = search needs
+
+cast-t9 : tie.Need-cast-t9
+cast-t9 c = search needs
+
+cast-t10 : tie.Need-cast-t10
+cast-t10 c = search needs
+
+cast-t11 : tie.Need-cast-t11
+cast-t11 c = search needs
+
+slice-aggregate-put-numbers : tie.Need-slice-aggregate-put-numbers
+slice-aggregate-put-numbers c = search needs
+
+put-numbers-requires : tie.Need-put-numbers-requires
+put-numbers-requires c κs = search needs
+
+same-length : tie.Need-same-length
+same-length c = search needs
+
+returns : tie.Need-returns
+unfolding numbersOf
+returns c = c .before .before .put-numbers .ensures ∙ rw (flag-byte (start c .args .judgement .split))
+
+pub put-judgement-spec : {M : Type 1} → statement M
+put-judgement-spec =
+    tie.close
+    (tie.spec
+    cast-t5
+    cast-t6
+    cast-t7
+    cast-t8
+    cast-t9
+    cast-t10
+    cast-t11
+    slice-aggregate-put-numbers
+    put-numbers-requires
+    same-length
+    returns)

@@ -1,0 +1,92 @@
+// What an exported function returns, and how its numbers and flags are put into lists.
+ghost use mathlib.Core.Path.{_≡_};
+ghost use mathlib.Core.List.{map};
+ghost use Prim.Native.Nat.{_+_, _*_, _≤_};
+ghost use lib.ListN.{length};
+ghost use Rattle.words.specs.Put.{put};
+ghost use Rattle.tablereader.specs.Outcome.{numberOf, recordOf};
+ghost use Rattle.unit.specs.Answers.{codeOf, flagOf, kindOf, numbersOf};
+use engine::Judgement;
+use tablereader::Outcome;
+use words::Comparison;
+
+// How many numbers each answer list takes.
+pub const VERDICT: usize = 7;
+pub const TRANSLATE: usize = 1;
+pub const PAIRS: usize = 1;
+pub const DIFFERENCE: usize = 2;
+pub const WRITE: usize = 1;
+
+// The refusal of an answer list that is too short, which document 01 does not have.
+pub const TOO_SHORT: u32 = 100;
+// Document 01's refusals of a buffer that is too short, and of a table value that breaks a rule.
+pub const BUFFER_TOO_SHORT: u32 = 7;
+pub const INVALID: u32 = 8;
+
+// A refusal as one number: document 01's number in the low 16 bits, the record's number above.
+pub fn refusal(number: u16, at: u16) -> u32
+    ensures { λ r. ⌜ r ≡ codeOf number at ⌝ }
+{
+    number as u32 + 65536 * at as u32
+}
+
+// The refusal of a file, 0 where it is taken.
+pub fn of_file(reader: Outcome) -> u32
+    ensures { λ r. ⌜ r ≡ codeOf (numberOf reader) (recordOf reader) ⌝ }
+{
+    refusal(reader.number() as u16, engine::record_number(reader))
+}
+
+// The number of a comparison: 0 level, 1 first ahead, 2 second ahead, 3 clash.
+pub fn kind(comparison: Comparison) -> u64
+    ensures { λ r. ⌜ r ≡ kindOf comparison ⌝ }
+{
+    match comparison {
+        Comparison::Level => 0,
+        Comparison::FirstAhead => 1,
+        Comparison::SecondAhead => 2,
+        Comparison::Clash => 3,
+    }
+}
+
+// Puts the seven numbers of a judgement to the front of the answer list.
+pub fn put_judgement(answer: &mut [u64], judgement: Judgement)
+    requires { ⌜ 7 ≤ length (now answer) ⌝ }
+    ensures { λ _. ⌜ now (answer .exit) ≡ put (now (answer .entry)) 0 (numbersOf judgement) ⌝ }
+{
+    let counts = judgement.counts;
+    let numbers = [
+        judgement.split as u64,
+        judgement.useful as u64,
+        counts.word as u64,
+        counts.path_a as u64,
+        counts.path_b as u64,
+        counts.output_x as u64,
+        counts.output_y as u64,
+    ];
+    put_numbers(answer, &numbers);
+}
+
+// Puts numbers to the front of a list.
+pub fn put_numbers(list: &mut [u64], numbers: &[u64])
+    requires { ⌜ length (now numbers) ≤ length (now list) ⌝ }
+    ensures { λ _. ⌜ now (list .exit) ≡ put (now (list .entry)) 0 (now (numbers .entry)) ⌝ }
+{
+    let mut i = 0;
+    while i < numbers.len() {
+        list[i] = numbers[i];
+        i += 1;
+    }
+}
+
+// Puts flags to the front of a list, 1 for true and 0 for false.
+pub fn put_flags(list: &mut [u8], flags: &[bool])
+    requires { ⌜ length (now flags) ≤ length (now list) ⌝ }
+    ensures { λ _. ⌜ now (list .exit) ≡ put (now (list .entry)) 0 (map flagOf (now (flags .entry))) ⌝ }
+{
+    let mut i = 0;
+    while i < flags.len() {
+        list[i] = flags[i] as u8;
+        i += 1;
+    }
+}
