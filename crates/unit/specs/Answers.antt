@@ -1,28 +1,65 @@
--- The numbers that an exported function answers with.
+-- The numbers that an exported function returns, and those that it puts into lists.
 use mathlib.Core.Bool.{Bool, true, false}
 use mathlib.Core.List.{List, [], _∷_}
 use Prim.Native.Nat.{ℕ, _+_, _*_}
+use lib.Dec.{ltb}
+use lib.ListN.{length}
 use Rattle.words.specs.declared.Comparison.{Comparison}
 use Rattle.words.specs.declared.Comparison.the-variants.{Level, FirstAhead, SecondAhead, Clash}
+use Rattle.transducer.specs.StateSet.{pick}
+use Rattle.engine.specs.Engine.{numberOf, recordOf}
 use Rattle.engine.specs.declared.Judgement.{Judgement}
 
--- a refusal as one number: document 01's number in the low 16 bits, the record's number above; 0 where nothing is refused
+-- ---- refusals
+
+-- an answer list that is too short: a refusal that document 01 does not have
+abbrev pub answerTooShort : ℕ
+answerTooShort = 100
+
+-- a refusal as one number: its own number in the low 16 bits, the record's number above; 0 where nothing is refused
 unfoldable pub codeOf : ℕ → ℕ → ℕ
 codeOf number at = number + 65536 * at
 
--- a flag as a number: 1 where it is true
+-- the refusal of a file, 0 where it is taken
+abbrev pub fileCode : List ℕ → ℕ
+fileCode f = codeOf (numberOf f) (recordOf f)
+
+-- the refusal of a list that has fewer than n places, 0 where it has them
+unfoldable pub roomFault : ℕ → List ℕ → ℕ → ℕ
+roomFault n list fault = pick (ltb (length list) n) fault 0
+
+-- ---- how many numbers an answer list takes
+
+abbrev pub verdictAnswer : ℕ
+verdictAnswer = 7
+
+abbrev pub translateAnswer : ℕ
+translateAnswer = 1
+
+abbrev pub pairsAnswer : ℕ
+pairsAnswer = 1
+
+abbrev pub differenceAnswer : ℕ
+differenceAnswer = 2
+
+abbrev pub writeAnswer : ℕ
+writeAnswer = 1
+
+-- ---- what is put into lists
+
+-- a flag: 1 where it is true
 abbrev pub flagOf : Bool → ℕ
 flagOf true = 1
 flagOf false = 0
 
--- how two words compare, as a number
+-- how two words compare
 abbrev pub kindOf : Comparison → ℕ
 kindOf Level = 0
 kindOf FirstAhead = 1
 kindOf SecondAhead = 2
 kindOf Clash = 3
 
--- the seven numbers of a judgement: split, u, and how many items stand in each buffer
+-- a judgement: split, u, and how many items stand in each buffer
 unfoldable pub numbersOf : Judgement → List ℕ
 numbersOf r =
     flagOf (r .split) ∷ r .useful ∷ r .counts .word ∷ r .counts .«path_a» ∷ r .counts .«path_b» ∷ r .counts .«output_x» ∷ r .counts .«output_y» ∷ []

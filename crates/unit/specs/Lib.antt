@@ -1,2 +1,4 @@
--- What the contracts of the exported functions cite.
+-- What the contracts of the exported functions cite, and what holds of any results that meet them.
 pub mod Answers
+pub mod Calls
+pub mod Laws

@@ -5,22 +5,29 @@ ghost use Prim.Native.Nat.{_+_, _*_, _≤_};
 ghost use lib.ListN.{length};
 ghost use Rattle.words.specs.Put.{put};
 ghost use Rattle.tablereader.specs.Outcome.{numberOf, recordOf};
+ghost use Rattle.tablewriter.specs.Writing as wrote;
 ghost use Rattle.unit.specs.Answers.{codeOf, flagOf, kindOf, numbersOf};
 use engine::Judgement;
 use tablereader::Outcome;
+use tablewriter::Writing;
 use words::Comparison;
 
 // How many numbers each answer list takes.
 pub const VERDICT: usize = 7;
+
 pub const TRANSLATE: usize = 1;
+
 pub const PAIRS: usize = 1;
+
 pub const DIFFERENCE: usize = 2;
+
 pub const WRITE: usize = 1;
 
 // The refusal of an answer list that is too short, which document 01 does not have.
 pub const TOO_SHORT: u32 = 100;
 // Document 01's refusals of a buffer that is too short, and of a table value that breaks a rule.
 pub const BUFFER_TOO_SHORT: u32 = 7;
+
 pub const INVALID: u32 = 8;
 
 // A refusal as one number: document 01's number in the low 16 bits, the record's number above.
@@ -46,6 +53,28 @@ pub fn kind(comparison: Comparison) -> u64
         Comparison::FirstAhead => 1,
         Comparison::SecondAhead => 2,
         Comparison::Clash => 3,
+    }
+}
+
+// Document 01's number of a writing, 0 where the file was written.
+pub fn writing_number(writing: Writing) -> u32
+    ensures { λ r. ⌜ r ≡ wrote.numberOf writing ⌝ }
+{
+    match writing {
+        Writing::Written(_) => 0,
+        Writing::Invalid => 8,
+        Writing::BufferTooShort => BUFFER_TOO_SHORT,
+    }
+}
+
+// How many bytes a writing wrote, 0 with a refusal.
+pub fn writing_length(writing: Writing) -> u64
+    ensures { λ r. ⌜ r ≡ wrote.lengthOf writing ⌝ }
+{
+    match writing {
+        Writing::Written(length) => length as u64,
+        Writing::Invalid => 0,
+        Writing::BufferTooShort => 0,
     }
 }
 

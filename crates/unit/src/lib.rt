@@ -1,5 +1,8 @@
 // The library that a unit links.
 ghost use mathlib.Core.Path.{_≡_};
+ghost use Rattle.witness.specs.Showing.{buffersOf};
+ghost use Rattle.unit.specs.Answers.{fileCode};
+ghost use Rattle.unit.specs.Calls.{VerdictGiven, TranslationGiven, StatesGiven, PairsGiven, DifferenceGiven, FileGiven};
 
 mod answers;
 
@@ -8,7 +11,9 @@ use transducer::limits;
 
 // Reads a table file.
 #[no_mangle]
-pub extern "C" fn yotselina_check(file: &[u8]) -> u32 {
+pub extern "C" fn yotselina_check(file: &[u8]) -> u32
+    ensures { λ r. ⌜ r ≡ fileCode (now (file .entry)) ⌝ }
+{
     let reading = tablereader::read(file);
     let outcome = reading.outcome;
     answers::of_file(outcome)
@@ -24,7 +29,15 @@ pub extern "C" fn yotselina_verdict(
     output_x: &mut [u8],
     output_y: &mut [u8],
     answer: &mut [u64],
-) -> u32 {
+) -> u32
+    ensures { λ r. ⌜
+        VerdictGiven (now (file .entry))
+        (buffersOf (now (word .entry)) (now («path_a» .entry)) (now («path_b» .entry)) (now («output_x» .entry)) (now («output_y» .entry)))
+        (buffersOf (now (word .exit)) (now («path_a» .exit)) (now («path_b» .exit)) (now («output_x» .exit)) (now («output_y» .exit)))
+        (now (answer .entry)) (now (answer .exit))
+        r
+        ⌝ }
+{
     if answer.len() < answers::VERDICT {
         return answers::TOO_SHORT;
     }
@@ -44,7 +57,13 @@ pub extern "C" fn yotselina_translate(
     input: &[u8],
     output: &mut [u8],
     answer: &mut [u64],
-) -> u32 {
+) -> u32
+    ensures { λ r. ⌜
+        TranslationGiven (now (file .entry)) (now (input .entry))
+        (now (output .entry)) (now (output .exit)) (now (answer .entry)) (now (answer .exit))
+        r
+        ⌝ }
+{
     if answer.len() < answers::TRANSLATE {
         return answers::TOO_SHORT;
     }
@@ -60,7 +79,9 @@ pub extern "C" fn yotselina_translate(
 
 // The useful states of a table file.
 #[no_mangle]
-pub extern "C" fn yotselina_useful_states(file: &[u8], flags: &mut [u8]) -> u32 {
+pub extern "C" fn yotselina_useful_states(file: &[u8], flags: &mut [u8]) -> u32
+    ensures { λ r. ⌜ StatesGiven (now (file .entry)) (now (flags .entry)) (now (flags .exit)) r ⌝ }
+{
     let reading = tablereader::read(file);
     let outcome = reading.outcome;
     let refused = answers::of_file(outcome);
@@ -80,11 +101,11 @@ pub extern "C" fn yotselina_useful_states(file: &[u8], flags: &mut [u8]) -> u32 
 
 // The useful pairs of a table file.
 #[no_mangle]
-pub extern "C" fn yotselina_useful_pairs(
-    file: &[u8],
-    flags: &mut [u8],
-    answer: &mut [u64],
-) -> u32 {
+pub extern "C" fn yotselina_useful_pairs(file: &[u8], flags: &mut [u8], answer: &mut [u64]) -> u32
+    ensures { λ r. ⌜
+        PairsGiven (now (file .entry)) (now (flags .entry)) (now (flags .exit)) (now (answer .entry)) (now (answer .exit)) r
+        ⌝ }
+{
     if answer.len() < answers::PAIRS {
         return answers::TOO_SHORT;
     }
@@ -109,7 +130,9 @@ pub extern "C" fn yotselina_useful_pairs(
 
 // The difference of two lists of output codes.
 #[no_mangle]
-pub extern "C" fn yotselina_difference(x: &[u8], y: &[u8], answer: &mut [u64]) -> u32 {
+pub extern "C" fn yotselina_difference(x: &[u8], y: &[u8], answer: &mut [u64]) -> u32
+    ensures { λ r. ⌜ DifferenceGiven (now (x .entry)) (now (y .entry)) (now (answer .entry)) (now (answer .exit)) r ⌝ }
+{
     if answer.len() < answers::DIFFERENCE {
         return answers::TOO_SHORT;
     }
@@ -121,7 +144,9 @@ pub extern "C" fn yotselina_difference(x: &[u8], y: &[u8], answer: &mut [u64]) -
 
 // The written form of the table of a file.
 #[no_mangle]
-pub extern "C" fn yotselina_write(file: &[u8], out: &mut [u8], answer: &mut [u64]) -> u32 {
+pub extern "C" fn yotselina_write(file: &[u8], out: &mut [u8], answer: &mut [u64]) -> u32
+    ensures { λ r. ⌜ FileGiven (now (file .entry)) (now (out .entry)) (now (out .exit)) (now (answer .entry)) (now (answer .exit)) r ⌝ }
+{
     if answer.len() < answers::WRITE {
         return answers::TOO_SHORT;
     }
@@ -133,13 +158,11 @@ pub extern "C" fn yotselina_write(file: &[u8], out: &mut [u8], answer: &mut [u64
     }
     let table = reading.table;
     let writing = tablewriter::write(table, out);
-    match writing {
-        tablewriter::Writing::Written(length) => {
-            let numbers = [length as u64];
-            answers::put_numbers(answer, &numbers);
-            0
-        }
-        tablewriter::Writing::Invalid => answers::INVALID,
-        tablewriter::Writing::BufferTooShort => answers::BUFFER_TOO_SHORT,
+    let number = answers::writing_number(writing);
+    if number != 0 {
+        return number;
     }
+    let numbers = [answers::writing_length(writing)];
+    answers::put_numbers(answer, &numbers);
+    0
 }

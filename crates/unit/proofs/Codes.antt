@@ -1,0 +1,67 @@
+-- What a call returns: the first of its refusals, or 0. Assumes nothing.
+use mathlib.Core.Path.{_≡_, refl, sym, ap, _∙_}
+use mathlib.Core.List.{List, [], _∷_}
+use mathlib.Core.Logic.{_≢_}
+use Prim.Native.Nat.{ℕ, _≤_, _<_}
+use native.Mathlib.Omega.{arith}
+use borrow.Author.Tests.{eq-eqb, ne-eqb, lt-ltb, le-ltb}
+use lib.ListN.{length}
+use Rattle.tablereader.specs.Outcome as outcome
+use Rattle.tablereader.specs.Reader.{readOf}
+use Rattle.tablereader.specs.Record.{firstOf}
+use Rattle.tablereader.specs.declared.Reading.{Reading}
+use Rattle.tablereader.proofs.Outcomes.{taken-number}
+use Rattle.engine.specs.Engine.{Taken}
+use Rattle.unit.specs.Answers.{codeOf, fileCode, roomFault}
+
+-- ---- the first refusal
+
+-- it is this one
+pub this-one : (faults : List ℕ) {r fault : ℕ} → r ≡ fault → r ≢ 0 → r ≡ firstOf (fault ∷ faults)
+unfolding firstOf
+this-one faults {fault = fault} e n = rw (ne-eqb fault 0 (λ z. n (e ∙ z))) e
+
+-- it is none before the others
+pub none-then : (faults : List ℕ) {r fault : ℕ} → fault ≡ 0 → r ≡ firstOf faults → r ≡ firstOf (fault ∷ faults)
+unfolding firstOf
+none-then faults {fault = fault} z e = rw (eq-eqb fault 0 z) e
+
+-- there is none
+pub no-more : 0 ≡ firstOf []
+unfolding firstOf
+no-more = refl
+
+-- a list that has the places is no refusal
+pub room : (n : ℕ) (list : List ℕ) (fault : ℕ) → n ≤ length list → roomFault n list fault ≡ 0
+unfolding roomFault
+room n list fault h = rw (le-ltb (length list) n h)
+
+-- a list that lacks some is
+pub no-room : (n : ℕ) (list : List ℕ) (fault : ℕ) → length list < n → fault ≡ roomFault n list fault
+unfolding roomFault
+no-room n list fault h = rw (lt-ltb (length list) n h)
+
+-- ---- the file
+
+-- a refusal without a record is its number
+pub no-record : (n : ℕ) → codeOf n 0 ≡ n
+unfolding codeOf
+no-record n = omega arith
+
+-- a code is 0 only where its number is
+pub code-zero : (n at : ℕ) → codeOf n at ≡ 0 → n ≡ 0
+unfolding codeOf
+code-zero n at z = omega arith
+
+-- the code of a file that is taken is 0
+pub taken-code : (f : List ℕ) → Taken f → fileCode f ≡ 0
+taken-code f t = rw (t, ap outcome.recordOf (taken-number (readOf f .outcome) t)) (no-record 0)
+
+-- and no other's is
+pub code-taken : (f : List ℕ) → fileCode f ≡ 0 → Taken f
+code-taken f z = code-zero _ _ z
+
+-- the code of what the reader returns
+pub code-read : (f : List ℕ) {reading : Reading} {r : ℕ} → reading ≡ readOf f
+    → r ≡ codeOf (outcome.numberOf (reading .outcome)) (outcome.recordOf (reading .outcome)) → r ≡ fileCode f
+code-read f reads e = e ∙ ap (λ (x : Reading). codeOf (outcome.numberOf (x .outcome)) (outcome.recordOf (x .outcome))) reads

@@ -1,0 +1,50 @@
+-- `yotselina_difference` meets its contract: its two numbers are those of the callees. Assumes nothing.
+use borrow.Author.Needs.{needs}
+use Rattle.unit.proofs.CallLaws.{difference-short, difference-given}
+use Rattle.unit.proofs.yotselina_difference.Statement.{statement}
+use Rattle.unit.proofs.yotselina_difference.Tie as tie
+
+abbrev compared : tie.After-slice-known2 → tie.After-shared
+compared c = c .before .before .before .before .before
+
+returns : tie.Need-returns
+returns c = difference-short (c .if1 .taken)
+
+difference-requires : tie.Need-difference-requires
+difference-requires c κs = search needs
+
+kind-requires : tie.Need-kind-requires
+kind-requires c κs = search needs
+
+shared-requires : tie.Need-shared-requires
+shared-requires c κs = search needs
+
+slice-aggregate-put-numbers : tie.Need-slice-aggregate-put-numbers
+slice-aggregate-put-numbers c = search needs
+
+put-numbers-requires : tie.Need-put-numbers-requires
+put-numbers-requires c κs = search needs
+
+same-length : tie.Need-same-length
+same-length c = search needs
+
+returns-2 : tie.Need-returns-2
+returns-2 c =
+    let shared = compared c in
+    let kind = shared .before in
+    let difference = kind .before in
+    difference-given (difference .before .if1 .left) (difference .difference .ensures) (kind .kind .ensures) (shared .shared .ensures)
+    (c .before .before .put-numbers .ensures)
+
+pub yotselina-difference-spec : {M : Type 1} → statement M
+yotselina-difference-spec =
+    tie.close
+    (tie.spec
+    returns
+    difference-requires
+    kind-requires
+    shared-requires
+    slice-aggregate-put-numbers
+    put-numbers-requires
+    same-length
+    returns-2)

@@ -1,0 +1,62 @@
+-- `yotselina_useful_states` meets its contract: the file decides first, then the places for the flags. Assumes nothing.
+use mathlib.Core.Path.{_≡_, sym, _∙_}
+use borrow.Author.Needs.{needs}
+use Rattle.unit.specs.Answers.{fileCode}
+use Rattle.unit.proofs.Codes.{code-read}
+use Rattle.unit.proofs.CallLaws.{states-refused, states-short, states-given}
+use Rattle.unit.proofs.yotselina_useful_states.Statement.{statement}
+use Rattle.unit.proofs.yotselina_useful_states.Tie as tie
+
+abbrev start : tie.Else1 → tie.Start
+start c = c .before .before .before .before .before
+
+abbrev found : tie.After-slice-known2 → tie.After-useful-states
+found c = c .before .before .before .before .before .before .before
+
+-- past its first test the file is taken
+taken : (c : tie.Else1) → fileCode (start c .args .file .now) ≡ 0
+taken c = sym (code-read _ (c .before .before .read .ensures) (c .before .of-file .ensures)) ∙ c .if1 .left
+
+read-requires : tie.Need-read-requires
+read-requires c κs = search needs
+
+of-file-requires : tie.Need-of-file-requires
+of-file-requires c κs = search needs
+
+returns : tie.Need-returns
+returns c = states-refused (code-read _ (c .before .before .read .ensures) (c .before .of-file .ensures)) (c .if1 .taken)
+
+returns-2 : tie.Need-returns-2
+returns-2 c = states-short (taken (c .before)) (c .if2 .taken)
+
+useful-states-requires : tie.Need-useful-states-requires
+useful-states-requires c κs = search needs
+
+slice-aggregate-put-flags : tie.Need-slice-aggregate-put-flags
+slice-aggregate-put-flags c = search needs
+
+put-flags-requires : tie.Need-put-flags-requires
+put-flags-requires c κs = search needs
+
+same-length : tie.Need-same-length
+same-length c = search needs
+
+returns-3 : tie.Need-returns-3
+returns-3 c =
+    let room = found c .before .before in
+    let reads = room .before .before .before .read .ensures in
+    states-given (taken (room .before)) (room .if2 .left) reads (found c .useful-states .ensures) (c .before .before .put-flags .ensures)
+
+pub yotselina-useful-states-spec : {M : Type 1} → statement M
+yotselina-useful-states-spec =
+    tie.close
+    (tie.spec
+    read-requires
+    of-file-requires
+    returns
+    returns-2
+    useful-states-requires
+    slice-aggregate-put-flags
+    put-flags-requires
+    same-length
+    returns-3)

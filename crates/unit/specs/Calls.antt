@@ -1,0 +1,116 @@
+-- What each exported function returns and leaves. f, x, y, input and the buffers b are what is lent, a is the answer list; a name with a prime is
+-- what that list holds afterwards.
+use mathlib.Core.Path.{_≡_}
+use mathlib.Core.Bool.{Bool, true, false}
+use mathlib.Core.List.{List, [], _∷_, map}
+use mathlib.Core.Logic.{_≢_, _↔_}
+use Prim.Native.Nat.{ℕ, _≤_, _<_}
+use lib.ListN.{length, getD}
+use Rattle.words.specs.Difference.{sharedOf, differenceOf}
+use Rattle.words.specs.Put.{put}
+use Rattle.transducer.specs.Limits.{mostStates}
+use Rattle.transducer.specs.StateSet.{pick}
+use Rattle.transducer.specs.Useful.{UsefulState, UsefulPair}
+use Rattle.tablereader.specs.Record.{firstOf}
+use Rattle.tablewriter.specs.Writing.{tooShort}
+use Rattle.pairsearch.specs.Numbers as pair
+use Rattle.pairsearch.specs.Numbers.{mostPairs}
+use Rattle.witness.specs.Showing.{Buffers}
+use Rattle.functionality.specs.Decided.{fullOf, UsefulCount}
+use Rattle.engine.specs.Engine.{tableOf, Judged, FileTranslated}
+use Rattle.engine.specs.declared.Judgement.{Judgement}
+use Rattle.engine.specs.declared.FileTranslation.{FileTranslation}
+use Rattle.unit.specs.Answers.{answerTooShort, codeOf, fileCode, roomFault, flagOf, kindOf, numbersOf}
+use Rattle.unit.specs.Answers.{verdictAnswer, translateAnswer, pairsAnswer, differenceAnswer, writeAnswer}
+
+-- Each record says the same three things: what is returned, that a refusal (not 0) changes nothing that is lent, and what is done where 0 is
+-- returned.
+
+-- ---- the verdict
+
+-- refused are, in this order, an answer list that is too short, the file, a buffer below its size
+unfoldable pub verdictCode : List ℕ → Buffers → List ℕ → ℕ
+verdictCode f b a = firstOf (roomFault verdictAnswer a answerTooShort ∷ fileCode f ∷ pick (fullOf b) 0 tooShort ∷ [])
+
+-- the file is judged, and the seven numbers of the judgement stand at the front of the answer list
+pub record JudgementIn (f : List ℕ) (b b′ : Buffers) (a a′ : List ℕ) : Type 0 where
+  pub judgement : Judgement
+  pub judged : Judged f b b′ judgement
+  pub answer : a′ ≡ put a 0 (numbersOf judgement)
+
+-- what `yotselina_verdict` returns and leaves
+pub record VerdictGiven (f : List ℕ) (b b′ : Buffers) (a a′ : List ℕ) (r : ℕ) : Type 0 where
+  pub code : r ≡ verdictCode f b a
+  pub refused : r ≢ 0 → (b′ ≡ b) × (a′ ≡ a)
+  pub done : r ≡ 0 → JudgementIn f b b′ a a′
+
+-- ---- the translation
+
+-- refused are, in this order, an answer list that is too short, what the translation by the file refuses
+unfoldable pub translateCode : FileTranslation → List ℕ → ℕ
+translateCode q a = firstOf (roomFault translateAnswer a answerTooShort ∷ codeOf (q .number) (q .«record») ∷ [])
+
+-- what `yotselina_translate` returns and leaves: the length of the output stands at the front of the answer list
+pub record TranslationGiven (f input out out′ a a′ : List ℕ) (r : ℕ) : Type 0 where
+  pub translation : FileTranslation
+  pub translated : translateAnswer ≤ length a → FileTranslated f input out out′ translation
+  pub code : r ≡ translateCode translation a
+  pub refused : r ≢ 0 → (out′ ≡ out) × (a′ ≡ a)
+  pub done : r ≡ 0 → a′ ≡ put a 0 (translation .length ∷ [])
+
+-- ---- useful states and useful pairs
+
+-- n flags stand at the front of the list: the flag at i is 1 where i has the property, else 0
+pub record Flagged (Property : ℕ → Type 0) (n : ℕ) (flags flags′ : List ℕ) : Type 0 where
+  pub members : List Bool
+  pub size : length members ≡ n
+  pub exactly : (i : ℕ) → i < n → (getD members i false ≡ true) ↔ Property i
+  pub list : flags′ ≡ put flags 0 (map flagOf members)
+
+-- refused are, in this order, the file, fewer than 32 places for the flags
+unfoldable pub statesCode : List ℕ → List ℕ → ℕ
+statesCode f flags = firstOf (fileCode f ∷ roomFault mostStates flags tooShort ∷ [])
+
+-- what `yotselina_useful_states` returns and leaves: flag q says whether the state q is useful
+pub record StatesGiven (f flags flags′ : List ℕ) (r : ℕ) : Type 0 where
+  pub code : r ≡ statesCode f flags
+  pub refused : r ≢ 0 → flags′ ≡ flags
+  pub done : r ≡ 0 → Flagged (UsefulState (tableOf f)) mostStates flags flags′
+
+-- refused are, in this order, an answer list that is too short, the file, fewer than 1,024 places for the flags
+unfoldable pub pairsCode : List ℕ → List ℕ → List ℕ → ℕ
+pairsCode f flags a = firstOf (roomFault pairsAnswer a answerTooShort ∷ fileCode f ∷ roomFault mostPairs flags tooShort ∷ [])
+
+-- flag 32 p + q says whether the pair (p, q) is useful, and u stands at the front of the answer list
+pub record PairsIn (f flags flags′ a a′ : List ℕ) : Type 0 where
+  pub flagged : Flagged (λ i. UsefulPair (tableOf f) (pair.firstOf i) (pair.secondOf i)) mostPairs flags flags′
+  pub useful : ℕ
+  pub count : UsefulCount (tableOf f) useful
+  pub answer : a′ ≡ put a 0 (useful ∷ [])
+
+-- what `yotselina_useful_pairs` returns and leaves
+pub record PairsGiven (f flags flags′ a a′ : List ℕ) (r : ℕ) : Type 0 where
+  pub code : r ≡ pairsCode f flags a
+  pub refused : r ≢ 0 → (flags′ ≡ flags) × (a′ ≡ a)
+  pub done : r ≡ 0 → PairsIn f flags flags′ a a′
+
+-- ---- the difference of two words
+
+-- what `yotselina_difference` returns and leaves: how the words compare, and how many codes they have in common at the beginning, stand at the front
+-- of the answer list
+pub record DifferenceGiven (x y a a′ : List ℕ) (r : ℕ) : Type 0 where
+  pub code : r ≡ roomFault differenceAnswer a answerTooShort
+  pub refused : r ≢ 0 → a′ ≡ a
+  pub done : r ≡ 0 → a′ ≡ put a 0 (kindOf (differenceOf x y) ∷ sharedOf x y ∷ [])
+
+-- ---- the file, written again
+
+-- refused are, in this order, an answer list that is too short, the file, fewer places than the file has bytes
+unfoldable pub writeCode : List ℕ → List ℕ → List ℕ → ℕ
+writeCode f out a = firstOf (roomFault writeAnswer a answerTooShort ∷ fileCode f ∷ roomFault (length f) out tooShort ∷ [])
+
+-- what `yotselina_write` returns and leaves: the file's own bytes, and how many they are
+pub record FileGiven (f out out′ a a′ : List ℕ) (r : ℕ) : Type 0 where
+  pub code : r ≡ writeCode f out a
+  pub refused : r ≢ 0 → (out′ ≡ out) × (a′ ≡ a)
+  pub done : r ≡ 0 → (out′ ≡ put out 0 f) × (a′ ≡ put a 0 (length f ∷ []))

@@ -1,0 +1,40 @@
+-- What holds of any results that meet the contracts of specs/Calls.antt: a refusal's number and record can be told from what is returned; and what is
+-- returned and left is determined, but for what document 01 leaves open. `boundary` of proofs/Boundary.antt proves it.
+use mathlib.Core.Path.{_≡_}
+use mathlib.Core.List.{List}
+use mathlib.Core.Logic.{_↔_}
+use Prim.Native.Nat.{ℕ, _<_, _/_, _%_}
+use lib.ListN.{getD, take}
+use Rattle.transducer.specs.Paths.{Functional}
+use Rattle.witness.specs.Showing.{Buffers}
+use Rattle.engine.specs.Engine.{Taken, tableOf}
+use Rattle.unit.specs.Answers.{codeOf, fileCode}
+use Rattle.unit.specs.Calls.{VerdictGiven, TranslationGiven, StatesGiven, PairsGiven, DifferenceGiven, FileGiven}
+
+-- two verdicts are the same in all that document 01 settles
+pub record SameVerdict (b₁ b₂ : Buffers) (a₁ a₂ : List ℕ) (r₁ r₂ : ℕ) : Type 0 where
+  pub returned : r₁ ≡ r₂
+  -- whether the table is split, and u
+  pub front : take 2 a₁ ≡ take 2 a₂
+  -- which witness is shown is free; where none is, all lists are the same
+  pub unless-split : (r₁ ≡ 0 → getD a₁ 0 0 ≡ 0) → (b₁ ≡ b₂) × (a₁ ≡ a₂)
+
+-- the laws of the exported functions
+pub record Boundary : Type 0 where
+  -- the low 16 bits of a refusal are its number, the others the record's
+  pub number-told : (number at : ℕ) → number < 65536 → codeOf number at % 65536 ≡ number
+  pub record-told : (number at : ℕ) → number < 65536 → codeOf number at / 65536 ≡ at
+  -- `yotselina_check` returns 0 exactly where the file is taken
+  pub taken-exactly : (f : List ℕ) → (fileCode f ≡ 0) ↔ Taken f
+  pub verdict : {f a a₁ a₂ : List ℕ} {b b₁ b₂ : Buffers} {r₁ r₂ : ℕ} → VerdictGiven f b b₁ a a₁ r₁ → VerdictGiven f b b₂ a a₂ r₂
+      → SameVerdict b₁ b₂ a₁ a₂ r₁ r₂
+  -- on a split table the path that is followed is free
+  pub translation : {f input out out₁ out₂ a a₁ a₂ : List ℕ} {r₁ r₂ : ℕ} → (Taken f → Functional (tableOf f))
+      → TranslationGiven f input out out₁ a a₁ r₁ → TranslationGiven f input out out₂ a a₂ r₂ → (r₁ ≡ r₂) × (out₁ ≡ out₂) × (a₁ ≡ a₂)
+  pub states : {f flags flags₁ flags₂ : List ℕ} {r₁ r₂ : ℕ} → StatesGiven f flags flags₁ r₁ → StatesGiven f flags flags₂ r₂
+      → (r₁ ≡ r₂) × (flags₁ ≡ flags₂)
+  pub pairs : {f flags flags₁ flags₂ a a₁ a₂ : List ℕ} {r₁ r₂ : ℕ} → PairsGiven f flags flags₁ a a₁ r₁ → PairsGiven f flags flags₂ a a₂ r₂
+      → (r₁ ≡ r₂) × (flags₁ ≡ flags₂) × (a₁ ≡ a₂)
+  pub difference : {x y a a₁ a₂ : List ℕ} {r₁ r₂ : ℕ} → DifferenceGiven x y a a₁ r₁ → DifferenceGiven x y a a₂ r₂ → (r₁ ≡ r₂) × (a₁ ≡ a₂)
+  pub file : {f out out₁ out₂ a a₁ a₂ : List ℕ} {r₁ r₂ : ℕ} → FileGiven f out out₁ a a₁ r₁ → FileGiven f out out₂ a a₂ r₂
+      → (r₁ ≡ r₂) × (out₁ ≡ out₂) × (a₁ ≡ a₂)
