@@ -30,18 +30,23 @@ roomFault n list fault = pick (ltb (length list) n) fault 0
 
 -- ---- how many numbers an answer list takes
 
+-- of a verdict: split, u and five counts
 abbrev pub verdictAnswer : ℕ
 verdictAnswer = 7
 
+-- of a translation: a length
 abbrev pub translateAnswer : ℕ
 translateAnswer = 1
 
+-- of the useful pairs: u
 abbrev pub pairsAnswer : ℕ
 pairsAnswer = 1
 
+-- of a difference: its kind and a length
 abbrev pub differenceAnswer : ℕ
 differenceAnswer = 2
 
+-- of a writing: a byte count
 abbrev pub writeAnswer : ℕ
 writeAnswer = 1
 

@@ -1,36 +1,36 @@
 // What an exported function returns, and how its numbers and flags are put into lists.
 ghost use mathlib.Core.Path.{_≡_};
 ghost use mathlib.Core.List.{map};
-ghost use Prim.Native.Nat.{_+_, _*_, _≤_};
+ghost use Prim.Native.Nat.{_≤_};
 ghost use lib.ListN.{length};
 ghost use Rattle.words.specs.Put.{put};
 ghost use Rattle.tablereader.specs.Outcome.{numberOf, recordOf};
 ghost use Rattle.tablewriter.specs.Writing as wrote;
-ghost use Rattle.unit.specs.Answers.{codeOf, flagOf, kindOf, numbersOf};
+ghost use Rattle.unit.specs.Answers.{codeOf, verdictAnswer, flagOf, kindOf, numbersOf};
 use engine::Judgement;
 use tablereader::Outcome;
 use tablewriter::Writing;
 use words::Comparison;
 
-// How many numbers each answer list takes.
+// How many numbers the answer to a verdict has: split, u and five counts.
 pub const VERDICT: usize = 7;
-
+// The answer to a translation: a length.
 pub const TRANSLATE: usize = 1;
-
+// The answer to the useful pairs: u.
 pub const PAIRS: usize = 1;
-
+// The answer to a difference: its kind and a length.
 pub const DIFFERENCE: usize = 2;
-
+// The answer to a writing: a byte count.
 pub const WRITE: usize = 1;
 
 // The refusal of an answer list that is too short, which document 01 does not have.
 pub const TOO_SHORT: u32 = 100;
-// Document 01's refusals of a buffer that is too short, and of a table value that breaks a rule.
+// Document 01's refusal of a buffer that is too short.
 pub const BUFFER_TOO_SHORT: u32 = 7;
-
+// Document 01's refusal of a transducer that breaks a rule.
 pub const INVALID: u32 = 8;
 
-// A refusal as one number: document 01's number in the low 16 bits, the record's number above.
+// A refusal as one number: its own number in the low 16 bits, the record's number above.
 pub fn refusal(number: u16, at: u16) -> u32
     ensures { λ r. ⌜ r ≡ codeOf number at ⌝ }
 {
@@ -62,7 +62,7 @@ pub fn writing_number(writing: Writing) -> u32
 {
     match writing {
         Writing::Written(_) => 0,
-        Writing::Invalid => 8,
+        Writing::Invalid => INVALID,
         Writing::BufferTooShort => BUFFER_TOO_SHORT,
     }
 }
@@ -80,7 +80,7 @@ pub fn writing_length(writing: Writing) -> u64
 
 // Puts the seven numbers of a judgement to the front of the answer list.
 pub fn put_judgement(answer: &mut [u64], judgement: Judgement)
-    requires { ⌜ 7 ≤ length (now answer) ⌝ }
+    requires { ⌜ verdictAnswer ≤ length (now answer) ⌝ }
     ensures { λ _. ⌜ now (answer .exit) ≡ put (now (answer .entry)) 0 (numbersOf judgement) ⌝ }
 {
     let counts = judgement.counts;

@@ -1,4 +1,6 @@
-// The library that a unit links.
+// The library that a unit links: document 01's calls for C, over lists and numbers only. Each returns 0, or a refusal as one number (`codeOf` of
+// specs/Answers.antt); a refusal changes no list. Where the answer is several numbers they go to the front of the list `answer`, whose length is
+// looked at before anything else. The contracts cite specs/Calls.antt; specs/Laws.antt says what they determine.
 ghost use mathlib.Core.Path.{_≡_};
 ghost use Rattle.witness.specs.Showing.{buffersOf};
 ghost use Rattle.unit.specs.Answers.{fileCode};
@@ -9,7 +11,7 @@ mod answers;
 use pairsearch::PAIRS;
 use transducer::limits;
 
-// Reads a table file.
+// Reads a table file, and returns its refusal, or 0 where it is taken.
 #[no_mangle]
 pub extern "C" fn yotselina_check(file: &[u8]) -> u32
     ensures { λ r. ⌜ r ≡ fileCode (now (file .entry)) ⌝ }
@@ -19,7 +21,8 @@ pub extern "C" fn yotselina_check(file: &[u8]) -> u32
     answers::of_file(outcome)
 }
 
-// The verdict on a table file.
+// Tests whether the transducer of a table file is functional. A witness that it is not is put into the five buffers; the answer is the seven numbers
+// of the judgement.
 #[no_mangle]
 pub extern "C" fn yotselina_verdict(
     file: &[u8],
@@ -50,7 +53,7 @@ pub extern "C" fn yotselina_verdict(
     0
 }
 
-// The output of a word by a table file.
+// Writes the output of the word `input` by a table file to the front of `output`; the answer is its length.
 #[no_mangle]
 pub extern "C" fn yotselina_translate(
     file: &[u8],
@@ -77,7 +80,7 @@ pub extern "C" fn yotselina_translate(
     0
 }
 
-// The useful states of a table file.
+// Puts a flag for each of the 32 states to the front of `flags`: whether it is useful.
 #[no_mangle]
 pub extern "C" fn yotselina_useful_states(file: &[u8], flags: &mut [u8]) -> u32
     ensures { λ r. ⌜ StatesGiven (now (file .entry)) (now (flags .entry)) (now (flags .exit)) r ⌝ }
@@ -99,7 +102,7 @@ pub extern "C" fn yotselina_useful_states(file: &[u8], flags: &mut [u8]) -> u32
     0
 }
 
-// The useful pairs of a table file.
+// Puts a flag for each of the 1,024 pairs of states to the front of `flags`: whether it is useful; the answer is u.
 #[no_mangle]
 pub extern "C" fn yotselina_useful_pairs(file: &[u8], flags: &mut [u8], answer: &mut [u64]) -> u32
     ensures { λ r. ⌜
@@ -128,7 +131,7 @@ pub extern "C" fn yotselina_useful_pairs(file: &[u8], flags: &mut [u8], answer: 
     0
 }
 
-// The difference of two lists of output codes.
+// The difference of two lists of output codes: the answer is how they compare, and how many codes they have in common at the beginning.
 #[no_mangle]
 pub extern "C" fn yotselina_difference(x: &[u8], y: &[u8], answer: &mut [u64]) -> u32
     ensures { λ r. ⌜ DifferenceGiven (now (x .entry)) (now (y .entry)) (now (answer .entry)) (now (answer .exit)) r ⌝ }
@@ -142,7 +145,7 @@ pub extern "C" fn yotselina_difference(x: &[u8], y: &[u8], answer: &mut [u64]) -
     0
 }
 
-// The written form of the table of a file.
+// Reads a table file and writes its transducer as a file to the front of `out`; the answer is the byte count.
 #[no_mangle]
 pub extern "C" fn yotselina_write(file: &[u8], out: &mut [u8], answer: &mut [u64]) -> u32
     ensures { λ r. ⌜ FileGiven (now (file .entry)) (now (out .entry)) (now (out .exit)) (now (answer .entry)) (now (answer .exit)) r ⌝ }
