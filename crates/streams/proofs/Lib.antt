@@ -1,0 +1,2 @@
+-- The law of the streams that programs cite.
+pub mod ToldLaws

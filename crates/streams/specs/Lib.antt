@@ -1,0 +1,2 @@
+-- What the contracts of the streams cite.
+pub mod Streams
