@@ -1,15 +1,25 @@
 -- What the programs print, from the bytes of a table file and of an input word (document 01, "Writer and programs").
 use mathlib.Core.Bool.{cond}
 use mathlib.Core.List.{List}
-use Prim.Native.Nat.{ℕ, _≤_}
+use Prim.Native.Nat.{ℕ, _+_, _≤_}
 use lib.Dec.{eqb}
 use lib.ListN.{length, take, replicate}
 use Rattle.words.specs.Puts.{Puts}
+use Rattle.fields.specs.Letters.{mostBytes}
+use Rattle.wordsearch.specs.Limits.{mostWord}
 use Rattle.witness.specs.Showing.{Buffers}
 use Rattle.engine.specs.Engine.{Judged, FileTranslated}
 use Rattle.engine.specs.declared.Judgement.{Judgement}
 use Rattle.engine.specs.declared.FileTranslation.{FileTranslation}
 use Rattle.listing.specs.Listing.{verdictListing, refusalListing, translationListing, mostSteps, mostShown, mostTranslated}
+
+-- how many bytes of a table file are read, 13,203: one more than the longest has
+abbrev pub readBytes : ℕ
+readBytes = mostBytes + 1
+
+-- how many codes of an input word are read, 256: one more than the longest has
+abbrev pub readCodes : ℕ
+readCodes = mostWord + 1
 
 -- the five buffers that are lent for a verdict, each of its size in document 01, all zeros
 unfoldable pub lent : Buffers

@@ -1,11 +1,64 @@
 -- `translation` meets its contract: an output is no longer than the buffer that is lent for it, and there is room for its listing. Assumes nothing.
+use Prim.Native.Nat.{_≤_}
 use borrow.Author.Needs.{needs}
 use native.Mathlib.Nat.{sub-zero}
 use native.Mathlib.Omega.{arith}
+use lib.ListN.{length, take}
+use denote.Ref.{now}
+use Rattle.engine.specs.Engine.{FileTranslated}
+use Rattle.listing.specs.Listing.{mostTranslated, mostTranslationBytes}
 use Rattle.report.specs.Report.{lentOutput}
 use Rattle.report.proofs.ReportLaws.{taken-most, translation-short, refusal-report, output-report}
 use Rattle.report.proofs.translation.Statement.{statement}
 use Rattle.report.proofs.translation.Tie as tie
+
+-- the function's entry, seen from the place behind the call of `translate_file`
+abbrev entry : tie.After-translate-file → tie.Start
+entry c = c .before .before .before .before .before .before
+
+-- that place, seen from where a refusal is listed, from where none was found, and from where an output is listed
+abbrev refused : tie.After-list-refusal → tie.After-translate-file
+refused c = c .before .before .before .before
+
+abbrev answer : tie.Else1 → tie.After-translate-file
+answer c = c .before .before
+
+abbrev from-out : tie.After-list-translation-arg2 → tie.Else1
+from-out c = c .before .before .before
+
+-- any listing fits the array, where a refusal is listed and where an output is
+refusal-room : (c : tie.After-list-refusal) → mostTranslationBytes ≤ length (now (entry (refused c) .args .out))
+refusal-room c = omega (arith, c .before .list-refusal-arg .given .0 .1)
+
+output-room : (c : tie.After-list-translation-arg2) → mostTranslationBytes ≤ length (now (entry (answer (from-out c)) .args .out))
+output-room c = omega (arith, c .list-translation-arg2 .given .0 .1)
+
+translated : (c : tie.After-translate-file)
+    → FileTranslated (take (entry c .args .got) (now (entry c .args .text))) (take (entry c .args .codes) (now (entry c .args .input))) lentOutput
+    (c .translate-file .last .1 .1 .0) (c .translate-file .result)
+unfolding lentOutput
+translated c = simp sub-zero at (c .translate-file .ensures)
+
+short : (c : tie.After-translate-file) → c .translate-file .result .length ≤ mostTranslated
+short c = translation-short (translated c)
+
+sub-translate-file : tie.Need-sub-translate-file
+sub-translate-file c = search needs
+
+part-translate-file-start : tie.Need-part-translate-file-start
+part-translate-file-start c = search needs
+
+part-translate-file-end : tie.Need-part-translate-file-end
+part-translate-file-end c = search needs
+
+sub-translate-file-2 : tie.Need-sub-translate-file-2
+sub-translate-file-2 c = search needs
+
+part-translate-file-start-2 : tie.Need-part-translate-file-start-2
+part-translate-file-start-2 c = search needs
+
+part-translate-file-end-2 : tie.Need-part-translate-file-end-2
+part-translate-file-end-2 c = search needs
 
 slice-aggregate-translate-file : tie.Need-slice-aggregate-translate-file
 slice-aggregate-translate-file c = search needs
@@ -16,16 +69,9 @@ translate-file-requires c κs = search needs
 list-refusal-requires : tie.Need-list-refusal-requires
 list-refusal-requires c κs = search needs
 
-same-length : tie.Need-same-length
-same-length c = search needs
-
 returns : tie.Need-returns
-unfolding lentOutput
 returns c =
-    let answer = c .before .before .before .before .before .before in
-    let start = answer .before .before .before .before .before in
-    refusal-report (answer .translate-file .ensures) (start .pre) (c .before .before .before .before .if1 .taken)
-    (c .before .before .list-refusal .ensures)
+    refusal-report (translated (refused c)) (refusal-room c) (c .before .before .if1 .taken) (c .list-refusal .ensures)
 
 sub-list-translation : tie.Need-sub-list-translation
 sub-list-translation c = search needs
@@ -34,38 +80,35 @@ part-list-translation-start : tie.Need-part-list-translation-start
 part-list-translation-start c = search needs
 
 part-list-translation-end : tie.Need-part-list-translation-end
-part-list-translation-end c = omega (arith, translation-short (c .before .before .before .translate-file .ensures))
+part-list-translation-end c = omega (arith, short (answer (c .before)))
 
 list-translation-requires : tie.Need-list-translation-requires
 list-translation-requires c κs =
-    let answer = c .before .before .before .before .before in
-    let short = translation-short (answer .translate-file .ensures) in
-    let few = taken-most (answer .translate-file .result .length) (answer .translate-file .last .1 .1 .0) in
-    record { few = omega arith; room = answer .before .before .before .before .before .pre }
-
-same-length-2 : tie.Need-same-length-2
-same-length-2 c = search needs
+    let file = answer (from-out c) in
+    let few = taken-most (file .translate-file .result .length) (file .translate-file .last .1 .1 .0) in
+    record { few = omega (arith, short file); room = output-room c }
 
 returns-2 : tie.Need-returns-2
-unfolding lentOutput
 returns-2 c =
-    let answer = c .before .before .before .before .before .before .before .before in
-    let start = answer .before .before .before .before .before in
-    output-report (answer .translate-file .ensures) (start .pre) (c .before .before .before .before .before .before .if1 .left)
-    (rw sub-zero at (c .before .before .list-translation .ensures))
+    let test = from-out (c .before) in
+    output-report (translated (answer test)) (output-room (c .before)) (test .if1 .left) (rw sub-zero at (c .list-translation .ensures))
 
 pub translation-spec : {M : Type 1} → statement M
 translation-spec =
     tie.close
     (tie.spec
+    sub-translate-file
+    part-translate-file-start
+    part-translate-file-end
+    sub-translate-file-2
+    part-translate-file-start-2
+    part-translate-file-end-2
     slice-aggregate-translate-file
     translate-file-requires
     list-refusal-requires
-    same-length
     returns
     sub-list-translation
     part-list-translation-start
     part-list-translation-end
     list-translation-requires
-    same-length-2
     returns-2)

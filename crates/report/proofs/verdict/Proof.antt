@@ -1,11 +1,14 @@
 -- `verdict` meets its contract: the buffers keep their lengths, so that what a judgement counts is within them and can be listed, and there is room
 -- for the listing. Assumes nothing.
+use Prim.Native.Nat.{_≤_}
 use borrow.Author.Needs.{needs}
 use native.Mathlib.Nat.{sub-zero}
 use native.Mathlib.Omega.{arith}
+use lib.ListN.{length, take}
 use denote.Ref.{now}
 use Rattle.witness.specs.Showing.{Buffers, buffersOf}
 use Rattle.engine.specs.Engine.{Judged}
+use Rattle.listing.specs.Listing.{mostVerdictBytes}
 use Rattle.report.specs.Report.{lent}
 use Rattle.report.proofs.ReportLaws.{Few, Sized, lent-sized, judged-few, items-room, refused-report, verdict-report}
 use Rattle.report.proofs.verdict.Statement.{statement}
@@ -27,9 +30,9 @@ sized c =
     let kept = c .judge .kept .1 in
     record { word = kept .0; path-a = kept .1 .0; path-b = kept .1 .1 .0; output-x = kept .1 .1 .1 .0; output-y = kept .1 .1 .1 .1 .0 }
 
-judged : (c : tie.After-judge) → Judged (now (entry c .args .text)) lent (left c) (c .judge .result)
+judged : (c : tie.After-judge) → Judged (take (entry c .args .got) (now (entry c .args .text))) lent (left c) (c .judge .result)
 unfolding lent
-judged c = c .judge .ensures
+judged c = simp sub-zero at (c .judge .ensures)
 
 few : (c : tie.After-judge) → Few (c .judge .result .counts)
 few c = judged-few (judged c) lent-sized (sized c)
@@ -57,6 +60,26 @@ from-y c = from-x (c .before .before)
 abbrev from-out : tie.After-list-verdict-arg6 → tie.Else1
 from-out c = from-y (c .before .before)
 
+-- and from where a refusal is listed
+abbrev refused : tie.After-list-refusal → tie.After-judge
+refused c = c .before .before .before .before .before .before .before .before
+
+-- any listing fits the array, where a refusal is listed and where a verdict is
+refusal-room : (c : tie.After-list-refusal) → mostVerdictBytes ≤ length (now (entry (refused c) .args .out))
+refusal-room c = omega (arith, c .before .list-refusal-arg .given .0 .1)
+
+verdict-room : (c : tie.After-list-verdict-arg6) → mostVerdictBytes ≤ length (now (entry (answer (from-out c)) .args .out))
+verdict-room c = omega (arith, c .list-verdict-arg6 .given .0 .1)
+
+sub-judge : tie.Need-sub-judge
+sub-judge c = search needs
+
+part-judge-start : tie.Need-part-judge-start
+part-judge-start c = search needs
+
+part-judge-end : tie.Need-part-judge-end
+part-judge-end c = search needs
+
 slice-aggregate-judge : tie.Need-slice-aggregate-judge
 slice-aggregate-judge c = search needs
 
@@ -78,13 +101,9 @@ judge-requires c κs = search needs
 list-refusal-requires : tie.Need-list-refusal-requires
 list-refusal-requires c κs = search needs
 
-same-length : tie.Need-same-length
-same-length c = search needs
-
 returns : tie.Need-returns
 returns c =
-    let judge = c .before .before .before .before .before .before .before .before .before .before in
-    refused-report (judged judge) (entry judge .pre) (c .before .before .before .before .if1 .taken) (c .before .before .list-refusal .ensures)
+    refused-report (judged (refused c)) (refusal-room c) (c .before .before .if1 .taken) (c .list-refusal .ensures)
 
 cast-words : tie.Need-cast-words
 cast-words c = search needs
@@ -147,21 +166,21 @@ part-list-verdict-end-5 : tie.Need-part-list-verdict-end-5
 part-list-verdict-end-5 c = omega (arith, few (answer (from-y c)) .output-y)
 
 list-verdict-requires : tie.Need-list-verdict-requires
-list-verdict-requires c κs = let judge = answer (from-out c) in simp sub-zero (items-room (left judge) (few judge) (entry judge .pre))
-
-same-length-2 : tie.Need-same-length-2
-same-length-2 c = search needs
+list-verdict-requires c κs = let judge = answer (from-out c) in simp sub-zero (items-room (left judge) (few judge) (verdict-room c))
 
 returns-2 : tie.Need-returns-2
 returns-2 c =
-    let test = from-out (c .before .before .before) in
+    let test = from-out (c .before) in
     let judge = answer test in
-    verdict-report (judged judge) (entry judge .pre) (test .if1 .left) (sized judge) (simp sub-zero at (c .before .before .list-verdict .ensures))
+    verdict-report (judged judge) (verdict-room (c .before)) (test .if1 .left) (sized judge) (simp sub-zero at (c .list-verdict .ensures))
 
 pub verdict-spec : {M : Type 1} → statement M
 verdict-spec =
     tie.close
     (tie.spec
+    sub-judge
+    part-judge-start
+    part-judge-end
     slice-aggregate-judge
     slice-aggregate-judge-2
     slice-aggregate-judge-3
@@ -169,7 +188,6 @@ verdict-spec =
     slice-aggregate-judge-5
     judge-requires
     list-refusal-requires
-    same-length
     returns
     cast-words
     cast-a
@@ -192,5 +210,4 @@ verdict-spec =
     part-list-verdict-start-5
     part-list-verdict-end-5
     list-verdict-requires
-    same-length-2
     returns-2)
