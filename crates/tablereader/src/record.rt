@@ -1,6 +1,6 @@
 // What every record is made of: the numbers of the refusals, and a number that must stand in a range.
 ghost use mathlib.Core.Path.{_≡_};
-ghost use Rattle.tablereader.specs.Record.{firstOf, numberAt};
+ghost use Rattle.tablereader.specs.Record.{firstOf, inRange, numberAt};
 use fields::Field;
 
 // The refusals of document 01, "What a refused call hands over".
@@ -18,9 +18,6 @@ pub const BYTES_FOLLOW: u8 = 6;
 
 pub const TOO_LONG: u8 = 12;
 
-// The byte that ends a record.
-pub const END: u8 = 10;
-
 // The longest file: a header, 32 start and 32 final states, and 256 transitions of 8 output codes.
 pub const MOST_BYTES: usize = 13202;
 
@@ -34,7 +31,14 @@ pub struct Number {
 pub fn number_at(text: &[u8], at: usize, low: u16, high: u16) -> Number
     ensures { λ r. ⌜ r ≡ numberAt (now (text .entry)) at low high ⌝ }
 {
-    let f = recordreader::field_of(text, at);
+    let f = fields::field_at(text, at);
+    in_range(f, low, high)
+}
+
+// The number of a field, which must be from `low` to `high`.
+pub fn in_range(f: Field, low: u16, high: u16) -> Number
+    ensures { λ r. ⌜ r ≡ inRange f low high ⌝ }
+{
     match f {
         Field::Ended => Number {
             fault: ENDED,

@@ -42,16 +42,16 @@ pub fn read_states(text: &[u8], start: usize, letter: u8, n: u16, count: u16, fi
     States { outcome, set }
 }
 
-// The record at `at`, whose state must be below n and at least `low`.
+// The record at `at`, whose state must be below n and at least `low`. The record reader goes over it.
 fn state_record(text: &[u8], at: usize, letter: u8, n: u16, low: u16) -> Number
     requires { ⌜ (at + stateSize ≤ mostBytes) × (1 ≤ n) ⌝ }
     ensures { λ r. ⌜ r ≡ stateRecord (now (text .entry)) letter n at low ⌝ }
 {
-    let first = recordreader::byte_of(text, at, letter);
-    let state = record::number_at(text, at + 1, 0, n - 1);
+    let read = recordreader::read_one_field(text, at, letter);
+    let field = read.field;
+    let state = record::in_range(field, 0, n - 1);
     let rising = rising_fault(low, state.value);
-    let end = recordreader::byte_of(text, at + 5, record::END);
-    let faults = [first, state.fault, rising, end];
+    let faults = [read.letter, state.fault, rising, read.end];
     Number {
         fault: record::first_of(&faults),
         value: state.value,
