@@ -2,9 +2,12 @@
 
 from compare import answer, as_codes, compare_translation, expected_verdict, faults_of_verdict
 from listing import MAX_TRANSLATION, Refusal, parse_translation, show
+from programs import Programs
 from transducer import MAX_FILE, MAX_WORD, Transducer, Transition, record, table_file
+from workers import spread
 
 GROUP = "named case"
+MADE = "files that are compared with"
 
 
 def table(states, starts, finals, *lines):
@@ -202,9 +205,9 @@ def run_translations(programs, findings):
 
 def run_longest(programs, findings):
     """The longest file, the longest translation, and split tables on which any output of the word will do."""
-    findings.check(GROUP, [] if len(LONGEST) == MAX_FILE else [f"{len(LONGEST)} bytes"], b"", "the longest file")
+    findings.check_apart(MADE, [] if len(LONGEST) == MAX_FILE else [f"{len(LONGEST)} bytes"], b"", "the longest file")
     findings.check(GROUP, faults_of_verdict(programs, findings, LONGEST, *expected_verdict(LONGEST)), LONGEST, "the longest file")
-    findings.check(GROUP, [] if table_file(P) == P_FILE and len(P_FILE) == 74 else ["other bytes"], P_FILE, "the file of table P")
+    findings.check_apart(MADE, [] if table_file(P) == P_FILE and len(P_FILE) == 74 else ["other bytes"], P_FILE, "the file of table P")
     transducer, word, expected = longest_translation()
     printed, faults = answer(parse_translation, programs.translate, table_file(transducer), bytes(word))
     if not faults and (isinstance(printed, Refusal) or printed != expected):
@@ -229,3 +232,7 @@ def run_in_pieces(programs, findings):
 def run(programs, findings):
     for part in (run_verdicts, run_refused_tables, run_translations, run_longest, run_in_pieces):
         part(programs, findings)
+
+
+def run_all(findings):
+    spread(Programs, [(run,)], findings)

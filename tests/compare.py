@@ -6,9 +6,11 @@ import damage
 import generate
 import reference
 from listing import Malformed, Refusal, Verdict, faults_of_witness, parse_translation, parse_verdict
-from programs import Broken
+from programs import Broken, Programs
 from reference import AMBIGUOUS, Refused
+from settings import share
 from transducer import table_file
+from workers import spread
 
 SEED = 20_240_101
 DAMAGED_FILES = 5_200
@@ -142,7 +144,7 @@ def check_reference(findings, content, transducer, known, expected):
         faults.append(f"functional by construction is {known}, and by residues it is not")
     if transducer.states <= MAX_DEFINED and len(pairs_by_subsets(transducer)) != expected.useful:
         faults.append("u by sets of states is another")
-    findings.check("reference itself", faults, content)
+    findings.check_apart("reference itself", faults, content)
 
 
 def compare_shuffled(programs, findings, random, transducer, expected, translations):
@@ -174,6 +176,12 @@ def compare_table(programs, findings, kind, index):
         compare_shuffled(programs, findings, random, transducer, expected, translations)
 
 
+def run_tables(findings):
+    """Every kind of table, as many as it says."""
+    jobs = [(compare_table, kind, index) for kind, (count, _) in generate.KINDS.items() for index in range(share(count))]
+    spread(Programs, jobs, findings)
+
+
 # --- damaged files ---------------------------------------------------------------------------------------------------
 
 
@@ -190,3 +198,7 @@ def compare_damaged(programs, findings, index):
         word = generate.any_word(random, transducer, 4) if random.random() < 0.8 else generate.broken_word(random, transducer)
         compare_translation(programs, findings, content, word, "damaged file, translation")
 
+
+
+def run_damaged(findings):
+    spread(Programs, [(compare_damaged, index) for index in range(share(DAMAGED_FILES))], findings)

@@ -26,7 +26,9 @@ class Findings:
 
     def __init__(self):
         self.passed = Counter()
+        self.apart = Counter()
         self.failures = []
+        self.left_out = []
         self.tally = Counter()
 
     def check(self, group, faults, content, note=""):
@@ -36,14 +38,30 @@ class Findings:
         else:
             self.passed[group] += 1
 
+    def check_apart(self, group, faults, content, note=""):
+        """Something that runs nothing of what is tested: it can fail the run, and is not counted as passed."""
+        if faults:
+            self.check(group, faults, content, note)
+        else:
+            self.apart[group] += 1
+
+    def leave_out(self, what):
+        """Something that is not run because someone chose so; it is said where it would run and at the end."""
+        self.left_out.append(what)
+        print(f"LEFT OUT: {what}", flush=True)
+
     def count(self, title, what):
         """Counts for the report, under a title."""
         self.tally[title, str(what)] += 1
 
     def add(self, other):
         self.passed.update(other.passed)
+        self.apart.update(other.apart)
         self.failures += other.failures
         self.tally.update(other.tally)
+
+    def total(self):
+        return sum(self.passed.values())
 
     def groups(self):
         return sorted({*self.passed, *(failure[0] for failure in self.failures)})
@@ -66,17 +84,22 @@ class Findings:
             print(f"\nFAILED, {group}: {'; '.join(faults)}")
             if note:
                 print(note)
-            print(f"the file ({len(content):,} bytes):\n{as_text(content)}", end="")
+            if content:
+                print(f"the file ({len(content):,} bytes):\n{as_text(content)}", end="")
         if len(self.failed(group)) > SHOWN:
             print(f"\n.. and {len(self.failed(group)) - SHOWN:,} more failures of this kind")
 
     def print_all(self):
-        """The report; the last line has the sums. Returns whether nothing failed."""
+        """The report; the last line has the sums. Returns whether something passed and nothing failed."""
         self.print_tally()
         for group in self.groups():
             self.print_failures(group)
         print()
+        for group, count in sorted(self.apart.items()):
+            print(f"not counted (runs nothing of what is tested), {group}: {count:,} held")
         for group in self.groups():
             print(f"{group}: {self.passed[group]:,} passed, {len(self.failed(group)):,} failed")
-        print(f"{sum(self.passed.values())} passed, {len(self.failures)} failed")
-        return not self.failures
+        for what in self.left_out:
+            print(f"LEFT OUT: {what}")
+        print(f"{self.total()} passed, {len(self.failures)} failed")
+        return self.total() > 0 and not self.failures

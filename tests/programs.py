@@ -1,10 +1,12 @@
 """Finds the two programs and runs them: one start for each file or word."""
 
-import os
 import shutil
 import subprocess
 import time
 from pathlib import Path
+
+from settings import setting
+from tools import Missing
 
 ROOT = Path(__file__).resolve().parent.parent
 TIME_LIMIT = 20  # seconds; a program that takes longer counts as one that does not end
@@ -16,16 +18,11 @@ class Broken(Exception):
     """The program did not end in time, or not with status 0."""
 
 
-class Missing(Exception):
-    """A program is not where it should be."""
-
-
-def find(variable, default):
-    """The path of a program: from the environment, or where the build leaves it."""
-    name = os.environ.get(variable, str(ROOT / default))
-    path = shutil.which(os.path.abspath(name))
-    if path is None:
-        raise Missing(f"no program at {name}: build it, or name it in {variable}")
+def find(variable):
+    """The path of a program: where the build leaves it, or what the variable names."""
+    path = ROOT / setting(variable)
+    if shutil.which(path) is None:
+        raise Missing(f"no program at {path}: build it, or name it in {variable}")
     return path
 
 
@@ -67,8 +64,8 @@ class Programs:
     """The programs under test. `translate` writes the file `table` in the current folder, so each worker needs a folder of its own."""
 
     def __init__(self):
-        self.verdict_path = find("VERDICT", "target/bin/verdict")
-        self.translate_path = find("TRANSLATE", "target/bin/translate")
+        self.verdict_path = find("VERDICT")
+        self.translate_path = find("TRANSLATE")
 
     def verdict(self, *pieces):
         return start(self.verdict_path, *pieces)
