@@ -63,6 +63,10 @@ class Findings:
     def total(self):
         return sum(self.passed.values())
 
+    def events(self):
+        """How much has passed, failed or been left out so far."""
+        return self.total() + len(self.failures) + len(self.left_out)
+
     def groups(self):
         return sorted({*self.passed, *(failure[0] for failure in self.failures)})
 

@@ -101,6 +101,8 @@ RUNS = (
     ("a program that fails", "tables", ("verdict", "exit 1"), {}, (None, None), "exit status 1"),
     ("a program that prints nothing", "tables", ("verdict", "exit 0"), {}, (None, None), "nothing is printed"),
     ("no program", "tables", None, {"VERDICT": "target/none"}, (0, 1), "no program at"),
+    ("no archive of the library", "library", None, {"UNIT": "target/none.a"}, (0, 1), "no archive at"),
+    ("an archive that is none", "library", None, {"UNIT": "tests/README.md"}, (0, 1), "as a shared object"),
     ("foma left out by name, and nothing else run", "foma", None, {"TESTS_WITHOUT_FOMA": "1"}, (0, 0), "LEFT OUT"),
 )
 

@@ -277,6 +277,23 @@ def relates(transducer, word, output):
     return any((node, len(output)) in reached for node in last)
 
 
+def writes_longer(transducer, word, length):
+    """Whether some accepting path reads the word and writes more than so many codes."""
+    leaving, first, _ = accepting_moves(transducer, word)
+    longest = {node: 0 for node in first}
+    waiting = deque(first)
+    while waiting:
+        node = waiting.popleft()
+        for line, entered in leaving[node]:
+            written = longest[node] + len(line.output)
+            if written > length:
+                return True
+            if written > longest.get(entered, -1):
+                longest[entered] = written
+                waiting.append(entered)
+    return False
+
+
 def translate(transducer, typed):
     """What the translating program owes for the bytes typed: the output, or AMBIGUOUS; refuses by document 01's numbers."""
     word = typed[:WORD_SEEN]

@@ -1,6 +1,7 @@
 """Comparisons in batches over several workers. A worker that dies, or a comparison that breaks off, fails the run."""
 
 import contextlib
+import signal
 import tempfile
 import traceback
 from concurrent.futures import ProcessPoolExecutor, as_completed
@@ -10,16 +11,19 @@ from findings import Findings
 from settings import setting
 
 BATCH = 20  # comparisons that a worker takes at a time
+TIME_LIMIT = 300  # seconds for a batch; a worker that takes longer ends, and with it the run
 GROUP = "workers"
 
 
 def work(tested, jobs):
     """One batch of comparisons of what is tested (made here), in a folder of its own because the translating program reads a file there."""
     findings, tested = Findings(), tested()
+    signal.alarm(TIME_LIMIT)
     with tempfile.TemporaryDirectory() as folder, contextlib.chdir(folder):
         for job, *names in jobs:
             if not findings.hanging():
                 job(tested, findings, *names)
+    signal.alarm(0)
     return findings
 
 

@@ -1,0 +1,235 @@
+"""Comparisons of the library's calls, made through ctypes, with what they owe (owed.py)."""
+
+import threading
+
+import cases
+import damage
+import generate
+from compare import DAMAGED_KINDS, as_codes, randomness
+from library import CALLS, OF_FILES, Call, Library, build, full_sizes
+from listing import Refusal, parse_verdict
+from owed import CLASH, FIRST_AHEAD, LEVEL, SECOND_AHEAD, faults_of, table_of
+from settings import share
+from transducer import MAX_WORD, table_file
+from workers import spread
+
+MIXED = 2_500  # files with random damages, words and sizes
+DIFFERENCES = 600
+ROUNDS = 3  # how often each thread makes every call
+SOME_TABLES = 4  # one table of a kind in so many is compared through the library
+
+
+def check(findings, group, table, call, note=""):
+    """One call compared whole."""
+    refusal, faults = faults_of(table, call)
+    findings.check(f"library, {group}", faults, table.content if table else b"", f"{call}\n{note}".rstrip())
+    findings.count(f"library, {call.name}", f"refused {refusal.number}" if refusal else "done")
+
+
+# --- tables ----------------------------------------------------------------------------------------------------------
+
+
+def inputs_of(name, content, words):
+    """What a call is lent to read: the file, and for translations a word."""
+    return [(content, word) for word in words] if name == "translate" else [(content,)]
+
+
+def exact_sizes(call):
+    """The sizes below which the call must not go: the lists' sizes, for a written output or file its own length."""
+    written = {"translate": "output", "write": "out"}.get(call.name)
+    sizes = full_sizes(call.name)
+    return sizes | {written: call.lent["answer"].items(1)[0]} if written and not call.returned else sizes
+
+
+def one_short(sizes):
+    """The same sizes with one place less in one list, for each list that has places."""
+    return [sizes | {lent: places - 1} for lent, places in sizes.items() if places]
+
+
+def compare_table(library, findings, kind, index):
+    """Every call on one generated table: with more than enough lent, with exactly enough, and with each list one place short."""
+    random = randomness("library", kind, index)
+    transducer, _ = generate.KINDS[kind][1](random)
+    table = table_of(table_file(transducer))
+    for name in OF_FILES:
+        for inputs in inputs_of(name, table.content, generate.input_words(random, transducer)):
+            note = as_codes(inputs[1]) if name == "translate" else ""
+            more = {lent: places + random.choice((0, 1, 9)) for lent, places in full_sizes(name).items()}
+            call = library.call(random, name, *inputs, **more)
+            check(findings, name, table, call, note)
+            sizes = exact_sizes(call)
+            check(findings, "exactly enough lent", table, library.call(random, name, *inputs, **sizes), note)
+            for less in one_short(sizes):
+                check(findings, "one list one place short", table, library.call(random, name, *inputs, **less), note)
+
+
+def any_size(random, full):
+    """A number of places: enough, just not, or anything."""
+    return random.choice((full, full, full, full + 3, full - 1, 0, random.randint(0, full)))
+
+
+def compare_mixed(library, findings, index):
+    """Every call on one file, mostly damaged, with any word and any sizes: which of several refusals comes first."""
+    random = randomness("library, mixed", index)
+    transducer, _ = generate.KINDS[random.choice(DAMAGED_KINDS)][1](random)
+    content = table_file(transducer)
+    content = damage.damaged(random, content)[0] if random.random() < 0.6 else content
+    table = table_of(content)
+    for name in OF_FILES:
+        word = random.choice(generate.input_words(random, transducer) + [generate.broken_word(random, transducer)])
+        inputs = inputs_of(name, content, [word])[0]
+        sizes = {lent: any_size(random, full) for lent, full in full_sizes(name).items()}
+        if name == "translate" and random.random() < 0.5:
+            sizes["output"] = random.randrange(12)
+        check(findings, "any file, word and sizes", table, library.call(random, name, *inputs, **sizes), as_codes(word))
+
+
+# --- named cases -----------------------------------------------------------------------------------------------------
+
+NO_FILE = b"x"  # refused 2 at record 0
+LATE = cases.P_FILE + b" "  # refused 6 at record 5
+P_FILE, D_FILE, ONE_STATE_FILE = cases.P_FILE, table_file(cases.D), table_file(cases.ONE_STATE)
+LONG, ZERO, UNREAD = b"\1" * MAX_WORD + b"\0", b"\1\0", b"\1\1"
+NOTHING = {name: {lent: 0 for lent in full_sizes(name)} for name in CALLS}
+ANSWERED = {name: NOTHING[name] | ({"answer": full_sizes(name)["answer"]} if "answer" in NOTHING[name] else {}) for name in CALLS}
+
+# which refusal goes first where several hold: call, what is lent to be read, sizes that are not full, number, record
+ORDERS = (
+    *((name, (LATE, LONG)[:len(CALLS[name][0])], NOTHING[name], 100, 0) for name in CALLS if "answer" in NOTHING[name]),
+    *((name, (P_FILE, LONG)[:len(CALLS[name][0])], NOTHING[name], 100, 0) for name in CALLS if "answer" in NOTHING[name]),
+    *((name, (LATE, LONG)[:len(CALLS[name][0])], ANSWERED[name], 6, 5) for name in OF_FILES),
+    *((name, (NO_FILE, b"")[:len(CALLS[name][0])], ANSWERED[name], 2, 0) for name in OF_FILES),
+    *((name, (b"", b"")[:len(CALLS[name][0])], ANSWERED[name], 1, 0) for name in OF_FILES),
+    ("translate", (D_FILE, LONG), {"output": 0}, 9, 0),
+    ("translate", (D_FILE, ZERO), {"output": 0}, 10, 0),
+    ("translate", (D_FILE, b"\1\xfb"), {"output": 0}, 10, 0),
+    ("translate", (D_FILE, UNREAD), {"output": 0}, 11, 0),
+    ("translate", (D_FILE, b"\1\2"), {"output": 1}, 7, 0),
+    ("translate", (D_FILE, b"\1\2"), {"output": 0}, 7, 0),
+    *((name, (file,), {lent: places - 1}, 7, 0) for name in ("verdict", "useful_states", "useful_pairs") for file in (P_FILE, D_FILE)
+      for lent, places in full_sizes(name).items() if lent != "answer"),
+    *(("write", (file,), {"out": len(file) - 1}, 7, 0) for file in (P_FILE, cases.LONGEST)),
+)
+
+
+def same_refusal(findings, group, call, number, record, note=""):
+    """A call that must be refused so, and change nothing."""
+    faults = [] if call.refusal() == Refusal(number, record) else [f"expected {number}, record {record}; returned {call.refusal() or 'done'}"]
+    findings.check(f"library, {group}", faults + [f"{lent} is changed" for lent in call.changed({})], call.inputs[0], f"{call}\n{note}".rstrip())
+
+
+def compare_orders(library, findings):
+    random = randomness("library, orders")
+    for name, inputs, sizes, number, record in ORDERS:
+        same_refusal(findings, "which refusal goes first", library.call(random, name, *inputs, **sizes), number, record)
+
+
+def compare_files(library, findings):
+    """The files of cases.py, by the numbers that stand there; and the words."""
+    random = randomness("library, files")
+    for title, content, printed in cases.FILES:
+        said = parse_verdict(printed)
+        for name in OF_FILES:
+            call = library.call(random, name, *inputs_of(name, content, [b""])[0])
+            if isinstance(said, Refusal):
+                same_refusal(findings, "named file", call, said.number, said.record, title)
+            else:
+                check(findings, "named file", table_of(content), call, title)
+    for title, transducer, word, _ in cases.TRANSLATIONS:
+        table = table_of(table_file(transducer))
+        check(findings, "named word", table, library.call(random, "translate", table.content, bytes(word)), title)
+    transducer, word, _ = cases.longest_translation()
+    table = table_of(table_file(transducer))
+    call = library.call(random, "translate", table.content, bytes(word))
+    check(findings, "named word", table, call, "the longest translation")
+    for less in one_short(exact_sizes(call)):
+        check(findings, "named word", table, library.call(random, "translate", table.content, bytes(word), **less), "the longest, one place short")
+
+
+# --- differences -----------------------------------------------------------------------------------------------------
+
+# first list, second list, kind, common length
+KNOWN_DIFFERENCES = (
+    (b"\5\6", b"\5", FIRST_AHEAD, 1), (b"\5", b"\5\6", SECOND_AHEAD, 1), (b"\5\6", b"\5\7", CLASH, 1), (b"", b"", LEVEL, 0),
+    (b"", b"\0", SECOND_AHEAD, 0), (b"\xff", b"", FIRST_AHEAD, 0), (b"\0", b"\0", LEVEL, 1), (b"\0", b"\xff", CLASH, 0),
+)
+
+
+def two_lists(random):
+    """Two lists of any bytes that often have much in common; one in forty is long."""
+    longest = 300_000 if random.random() < 0.025 else random.choice((3, 20, 300))
+    common = random.randbytes(random.randint(0, longest))
+    ends = [random.choice((b"", b"", random.randbytes(1), random.randbytes(random.randint(0, longest)))) for _ in range(2)]
+    return common + ends[0], common + ends[1]
+
+
+def compare_differences(library, findings):
+    random = randomness("library, differences")
+    for x, y, kind, common in KNOWN_DIFFERENCES:
+        call = library.call(random, "difference", x, y)
+        faults = [] if not call.returned and call.lent["answer"].items(2) == (kind, common) else [f"returned {call.returned}, {call.lent['answer'].items(2)}"]
+        findings.check("library, difference", faults, b"", f"{x!r} and {y!r}")
+    for _ in range(share(DIFFERENCES)):
+        x, y = two_lists(random)
+        for places in (2, 5, 1, 0):
+            check(findings, "difference", None, library.call(random, "difference", x, y, answer=places), f"{x[:60]!r} and {y[:60]!r}")
+
+
+# --- threads ---------------------------------------------------------------------------------------------------------
+
+
+def thread_calls():
+    """Calls of every kind, on tables of every kind, some times over. The memory that is lent has the same content each time this is asked."""
+    calls = []
+    for kind, (_, make) in generate.KINDS.items():
+        random = randomness("library, threads", kind)
+        transducer, _ = make(random)
+        content, words = table_file(transducer), generate.input_words(random, transducer)
+        given = [(name, inputs) for name in OF_FILES for inputs in inputs_of(name, content, words)] + [("difference", (content, content[:-1]))]
+        calls += [Call(random, name, inputs, full_sizes(name)) for name, inputs in given * ROUNDS]
+    return calls
+
+
+def make_all(library, calls, start):
+    start.wait()
+    for call in calls:
+        call.make(library)
+
+
+def same_answers(call, other):
+    """Whether two calls returned the same and left the same in all that was lent."""
+    return call.returned == other.returned and all(other.lent[name].memory.raw == lent.memory.raw for name, lent in call.lent.items())
+
+
+def compare_threads(library, findings):
+    """The same calls from two threads at once, in opposite orders and each with memory of its own, against those of one thread. Some must have run at
+    the same time."""
+    group = "library, two threads at once"
+    alone, first, second = thread_calls(), thread_calls(), thread_calls()
+    make_all(library, alone, threading.Barrier(1))
+    start = threading.Barrier(2)
+    threads = [threading.Thread(target=make_all, args=(library, calls, start)) for calls in (first, second[::-1])]
+    for thread in threads:
+        thread.start()
+    for thread in threads:
+        thread.join()
+    for one, call in zip(alone * 2, first + second):
+        findings.check(group, [] if same_answers(one, call) else ["another answer than in one thread"], call.inputs[0], str(call))
+    for call in first:
+        during = any(call.begun < other.ended and other.begun < call.ended for other in second)
+        findings.count(group, "during a call of the other" if during else "between its calls")
+    if not findings.tally[group, "during a call of the other"]:
+        findings.check(group, ["no call of one thread ran during one of the other"], b"")
+
+
+def run(findings):
+    build()
+    jobs = [(compare_table, kind, index) for kind, (count, _) in generate.KINDS.items() for index in range(share(-(-count // SOME_TABLES)))]
+    jobs += [(compare_mixed, index) for index in range(share(MIXED))]
+    jobs += [(compare_orders,), (compare_files,), (compare_differences,)]
+    spread(Library, jobs, findings)
+
+
+def run_threads(findings):
+    build()
+    spread(Library, [(compare_threads,)], findings)

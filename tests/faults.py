@@ -1,0 +1,103 @@
+"""Seeded faults: the library with one function made wrong in C, which the comparisons of boundary.py must find."""
+
+import subprocess
+import tempfile
+from ctypes import c_uint8, c_uint16, c_uint64
+from pathlib import Path
+
+import boundary
+from findings import Findings
+from library import CALLS, Library, build, link_shared
+from tools import debian
+from workers import spread
+
+GROUP = "library, seeded fault is found"
+TYPES = {c_uint8: "uint8_t", c_uint16: "uint16_t", c_uint64: "uint64_t"}
+KINDS = ("random, small", "most lines read nothing", "two copies, a code changed", "branches", "coprime cycles", "deterministic")
+TABLES, MIXED = 2, 10
+
+# what is wrong, the function, what it does before and after the right one is called (r is what that returned)
+FAULTS = (
+    ("single for everything", "verdict", "", "if (!r && answer[0]) for (int i = 0; i < 7; i++) if (i != 1) answer[i] = 0;"),
+    ("one more useful pair", "verdict", "", "if (!r) answer[1]++;"),
+    ("the paths in the wrong order", "verdict", "uint16_t *p = path_a; path_a = path_b; path_b = p; uint8_t *o = output_x; output_x = output_y; output_y = o;", ""),
+    ("an output code changed", "verdict", "", "if (!r && answer[6]) output_y[0] ^= 1;"),
+    ("a word one code longer", "verdict", "", "if (!r && answer[0]) word[answer[2]++] = 1;"),
+    ("a byte after the list", "verdict", "", "if (!r) word[word_length] ^= 1;"),
+    ("a byte before the list", "translate", "", "if (!r) output[-1] ^= 1;"),
+    ("a place beyond the count", "translate", "", "if (!r && answer[0] < output_length) output[answer[0]] ^= 1;"),
+    ("a single verdict writes", "verdict", "", "if (!r && !answer[0]) path_b[0] ^= 1;"),
+    ("a refused call writes", "translate", "", "if (r == 11) answer[0] ^= 1;"),
+    ("a refused call writes in the last place", "verdict", "", "if (r == 7 && output_y_length) output_y[output_y_length - 1] ^= 1;"),
+    ("what is read is changed", "translate", "", "if (!r && input_length) ((uint8_t *)input)[0] ^= 1;"),
+    ("the record is lost", "useful_states", "", "r &= 0xffff;"),
+    ("no record for the last number", "check", "", "if (YOTSELINA_NUMBER(r) == 6) r = 6;"),
+    ("the file is refused before the answer list", "write", "", "if (r == 100 && yotselina_check(file, file_length)) r = yotselina_check(file, file_length);"),
+    ("7 before the file's number", "useful_pairs", "if (answer_length && flags_length < 1024) return 7;", ""),
+    ("7 before 11", "translate", "", "if (r == 11 && !output_length) r = 7;"),
+    ("10 before 9", "translate", "", "if (r == 9 && !input[input_length - 1]) r = 10;"),
+    ("one place short is taken", "verdict", "path_b_length += path_b_length == 2046;", ""),
+    ("exactly enough is refused", "write", "out_length -= out_length > 0;", ""),
+    ("a flag too many", "useful_pairs", "", "if (!r) flags[1023] = 1;"),
+    ("a flag that is neither 0 nor 1", "useful_states", "", "if (!r) flags[0] *= 2;"),
+    ("the last byte is not counted", "write", "", "if (!r) answer[0]--;"),
+    ("the sides are exchanged", "difference", "", "if (!r && (answer[0] == 1 || answer[0] == 2)) answer[0] = 3 - answer[0];"),
+    ("only the first 65,536 codes are compared", "difference", "if (x_length > 65536 && y_length > 65536) x_length = y_length = 65536;", ""),
+)
+# a function that keeps something while it runs: seen only where another thread is in it at the same time
+SHARES = ("memory that threads share", "verdict", "static volatile size_t kept; kept = file_length;", "if (!r && kept != file_length) answer[1]++;")
+
+
+def source(name, before, after):
+    """The wrong function in C, around the right one under another name."""
+    read, written = CALLS[name]
+    lists = [(f"const {TYPES[c_uint8]}", lent) for lent in read] + [(TYPES[kind], lent) for lent, kind, _ in written]
+    parameters = ", ".join(f"{kind} *{lent}, size_t {lent}_length" for kind, lent in lists)
+    given = ", ".join(f"{lent}, {lent}_length" for _, lent in lists)
+    return f"""#include <stddef.h>
+#include <stdint.h>
+#define YOTSELINA_NUMBER(r) ((r) & 0xffff)
+uint32_t yotselina_check(const uint8_t *file, size_t file_length);
+uint32_t right({parameters});
+uint32_t yotselina_{name}({parameters}) {{ {before} uint32_t r = right({given}); {after} return r; }}
+"""
+
+
+def wrong_library(folder, archive, fault):
+    """The shared object with the fault in it."""
+    _, name, before, after = fault
+    (folder / "wrong.c").write_text(source(name, before, after), encoding="ascii")
+    subprocess.run([debian("objcopy", "binutils"), "--redefine-sym", f"yotselina_{name}=right", archive, folder / "right.a"], check=True)
+    link_shared(folder / "wrong.so", folder / "right.a", folder / "wrong.c")
+    return Library(folder / "wrong.so")
+
+
+def compare_some(library, name):
+    """A small share of the comparisons."""
+    found = Findings()
+    if name == "difference":
+        boundary.compare_differences(library, found)
+        return found
+    for kind in KINDS:
+        for index in range(TABLES):
+            boundary.compare_table(library, found, kind, index)
+    for index in range(MIXED):
+        boundary.compare_mixed(library, found, index)
+    boundary.compare_orders(library, found)
+    return found
+
+
+def try_fault(_, findings, archive, fault):
+    with tempfile.TemporaryDirectory() as folder:
+        library = wrong_library(Path(folder), archive, fault)
+        found = Findings()
+        if fault == SHARES:
+            boundary.compare_threads(library, found)
+        else:
+            found = compare_some(library, fault[1])
+    findings.check(GROUP, [] if found.failures else [f"not found: {fault[0]} ({fault[1]})"], b"")
+
+
+def run(findings):
+    archive = build()
+    spread(Library, [(try_fault, archive, fault) for fault in (*FAULTS, SHARES)], findings, batch=2)

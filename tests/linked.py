@@ -1,0 +1,168 @@
+"""The library linked to a C program (boundary.c) and a C++ program, under valgrind; the header; what the archive has in it."""
+
+import re
+import subprocess
+import tempfile
+from pathlib import Path
+
+import cases
+import generate
+from boundary import check
+from compare import randomness
+from library import CALLS, compile_c, find_archive, full_sizes
+from listing import MAX_TRANSLATION, MAX_WITNESS, MAX_WITNESS_OUTPUT, Refusal
+from owed import ANSWER_TOO_SHORT, table_of
+from programs import ROOT
+from tools import debian
+from transducer import MAX_CODE, MAX_FILE, MAX_STATES, MAX_TRANSITIONS, MAX_WORD, table_file
+
+GROUP = "library, linked"
+HEADER = ROOT / "include" / "yotselina.h"
+DRIVER = ROOT / "tests" / "boundary.c"
+STRICT = ("-Wall", "-Wextra", "-Werror", "-pedantic", f"-I{HEADER.parent}")
+COMPILERS = (("gcc", "-std=c99"), ("gcc", "-std=c11"), ("gcc", "-std=c17"), ("g++", "-std=c++11"), ("g++", "-std=c++17"), ("g++", "-std=c++20"))
+TIME_LIMIT = 120
+SIZES = (MAX_STATES, MAX_TRANSITIONS, MAX_FILE, MAX_WORD, MAX_TRANSLATION, MAX_WITNESS, MAX_WITNESS_OUTPUT, MAX_STATES * MAX_STATES,
+         *(full_sizes(name)["answer"] for name in ("verdict", "translate", "useful_pairs", "difference", "write")), ANSWER_TOO_SHORT)
+FOUND = 99  # exit status where valgrind has found something
+VALGRIND = ("-q", f"--error-exitcode={FOUND}", "--leak-check=full", "--errors-for-leak-kinds=all")
+TAKEN = {"memcpy", "memmove", "memset", "memcmp", "bcmp"}  # what the archive may take from C
+
+
+# --- header and archive ----------------------------------------------------------------------------------------------
+
+
+def check_header(findings, folder):
+    """Every compiler takes the header alone, and the program over it."""
+    for compiler, standard in COMPILERS:
+        language = "c" if compiler == "gcc" else "c++"
+        complaint = compile_c(compiler, standard, *STRICT, "-fsyntax-only", "-x", language, HEADER)
+        findings.check("library, header", [complaint] if complaint else [], b"", f"{compiler} {standard}")
+        complaint = compile_c(compiler, standard, *STRICT, "-c", "-o", folder / "driver.o", "-x", language, DRIVER)
+        findings.check("library, header", [complaint] if complaint else [], b"", f"{compiler} {standard}, the program")
+
+
+def check_archive(findings, archive):
+    """The archive has the functions that the header declares and no others, takes next to nothing from C (no heap), and has no memory of its own."""
+    listed = subprocess.run([debian("nm", "binutils"), "-P", archive], capture_output=True, text=True, check=True).stdout
+    symbols = [line.split()[:2] for line in listed.splitlines() if len(line.split()) > 1]
+    declared = set(re.findall(r"^uint32_t (\w+)\(", HEADER.read_text(encoding="utf-8"), re.MULTILINE))
+    functions = {name for name, kind in symbols if kind in "TW"}
+    faults = [] if functions == declared == {f"yotselina_{name}" for name in CALLS} else [f"declared {sorted(declared)}, there {sorted(functions)}"]
+    findings.check("library, archive", faults, b"", "functions")
+    taken = {name for name, kind in symbols if kind == "U"} - TAKEN
+    findings.check("library, archive", [f"takes {sorted(taken)}"] if taken else [], b"", "what it takes from C")
+    kept = [name for name, kind in symbols if kind in "bBdDcC"]
+    findings.check("library, archive", [f"keeps {kept}"] if kept else [], b"", "memory of its own")
+
+
+# --- the program -----------------------------------------------------------------------------------------------------
+
+
+class Items:
+    """A list as it is printed: only what was written."""
+
+    def __init__(self, items):
+        self.printed = items
+
+    def items(self, count):
+        return self.printed[:count]
+
+
+class Printed:
+    """A line of the program, to be compared like a call."""
+
+    def __init__(self, line, table, word):
+        head, _, rest = line.partition(":")
+        self.name, *sizes = head.split()
+        returned, *lists = rest.split("|")
+        number, record = map(int, returned.split())
+        self.returned = number + (record << 16)
+        self.inputs = (table, word)
+        names = [lent for lent, _, _ in CALLS[self.name][1]]
+        self.sizes = dict(zip(names, map(int, sizes)))
+        printed = [tuple(map(int, items.split())) for items in lists] or [()] * len(names)
+        self.lent = {name: Items(items) for name, items in zip(names, printed)}
+
+    def refusal(self):
+        return Refusal(self.returned & 0xFFFF, self.returned >> 16) if self.returned else None
+
+    def changed(self, owed):
+        return [name for name, lent in self.lent.items() if lent.printed != tuple(owed.get(name, ()))]
+
+    def __str__(self):
+        return f"{self.name}, lent {self.sizes}"
+
+
+def longest_file():
+    """A file of the most bytes, on which the verdict is soon found: two lines of state 0 read 1 and write different codes."""
+    lines = ((0, 0, 1 + i % MAX_CODE, 1 + i // MAX_CODE, *[MAX_CODE] * 7) for i in range(MAX_TRANSITIONS))
+    return table_file(cases.table(MAX_STATES, range(MAX_STATES), range(MAX_STATES), *lines))
+
+
+def samples():
+    """Tables and words: those of document 01, the largest, damaged ones, and some of each sort at random."""
+    longest, word, _ = cases.longest_translation()
+    yield from ((cases.P_FILE, b"\1\1"), (table_file(cases.D), b"\1\2"), (table_file(cases.D_SPLIT), b"\1\2"), (table_file(cases.ONE_STATE), b""),
+                (table_file(longest), bytes(word)), (longest_file(), b"\1\2"), (cases.P_FILE + b" ", b"\1"), (b"", b""), (cases.LONGEST[:-1], b"\1"),
+                (table_file(cases.D), b"\1" * 256), (table_file(cases.D), b"\0"))
+    for kind in ("random, small", "most lines read nothing", "periodic output", "two copies, a code changed", "coprime cycles", "full size, random"):
+        random = randomness("library, linked", kind)
+        transducer, _ = generate.KINDS[kind][1](random)
+        yield table_file(transducer), generate.input_words(random, transducer)[0]
+
+
+def write_samples(folder):
+    """The samples as files; returns them with their names."""
+    given, names = list(samples()), []
+    for number, parts in enumerate(given):
+        for what, content in zip(("table", "word"), parts):
+            names.append(folder / f"{what}{number}")
+            names[-1].write_bytes(content)
+    return given, names
+
+
+def check_valgrind(findings, valgrind, program):
+    """valgrind itself: it sees a place beside a list that is touched."""
+    done = subprocess.run([valgrind, *VALGRIND, program, "beside"], capture_output=True, text=True, timeout=TIME_LIMIT, check=False)
+    faults = [] if done.returncode == FOUND and "Invalid read of size 1" in done.stderr else [f"exit status {done.returncode}: {done.stderr[:600]}"]
+    findings.check_apart("valgrind itself", faults, b"")
+
+
+def run_driver(findings, command, given, title):
+    """One run of the program over all samples, each line compared."""
+    try:
+        done = subprocess.run(command, capture_output=True, text=True, timeout=TIME_LIMIT, check=False)
+    except subprocess.TimeoutExpired:
+        findings.check(GROUP, [f"did not end within {TIME_LIMIT} seconds"], b"", title)
+        return
+    faults = [f"exit status {done.returncode}: {done.stderr[:3000]}"] if done.returncode or done.stderr else []
+    findings.check(GROUP, faults, b"", f"{title}: nothing to complain of")
+    head, *parts = re.split(r"^file \d+\n", done.stdout, flags=re.MULTILINE)
+    numbers = tuple(map(int, head.partition(":")[2].split()))
+    findings.check(GROUP, [] if numbers == SIZES else [f"the header has {numbers}, not {SIZES}"], b"", f"{title}: sizes")
+    findings.check(GROUP, [] if len(parts) == len(given) else [f"{len(parts)} of {len(given)} samples are done"], b"", title)
+    for (content, word), part in zip(given, parts):
+        table = table_of(content)
+        for line in part.splitlines():
+            call = Printed(line, content, word)
+            check(findings, "linked", None if call.name == "difference" else table, call, title)
+
+
+def run(findings):
+    """Needs include/yotselina.h, gcc, g++ and valgrind; what is missing of these is installed, or fails the run."""
+    archive, valgrind = find_archive(), debian("valgrind")
+    with tempfile.TemporaryDirectory() as name:
+        folder = Path(name)
+        check_header(findings, folder)
+        check_archive(findings, archive)
+        given, names = write_samples(folder)
+        for compiler, language, tool in (("gcc", "c", (valgrind, *VALGRIND)), ("g++", "c++", ())):
+            program = folder / f"driver-{language}"
+            complaint = compile_c(compiler, *STRICT, "-g", "-o", program, "-x", language, DRIVER, "-x", "none", archive)
+            findings.check(GROUP, [complaint] if complaint else [], b"", f"{compiler}: linked")
+            if complaint:
+                continue
+            if tool:
+                check_valgrind(findings, valgrind, program)
+            run_driver(findings, [*tool, program, *names], given, f"{compiler}{', under valgrind' if tool else ''}")
