@@ -13,7 +13,7 @@ from settings import share
 from transducer import MAX_WORD, table_file
 from workers import spread
 
-MIXED = 2_500  # files with random damages, words and sizes
+MIXED = 1_500  # files with random damages, words and sizes
 DIFFERENCES = 600
 ROUNDS = 3  # how often each thread makes every call
 SOME_TABLES = 4  # one table of a kind in so many is compared through the library
