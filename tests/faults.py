@@ -20,7 +20,8 @@ TABLES, MIXED = 2, 10
 FAULTS = (
     ("single for everything", "verdict", "", "if (!r && answer[0]) for (int i = 0; i < 7; i++) if (i != 1) answer[i] = 0;"),
     ("one more useful pair", "verdict", "", "if (!r) answer[1]++;"),
-    ("the paths in the wrong order", "verdict", "uint16_t *p = path_a; path_a = path_b; path_b = p; uint8_t *o = output_x; output_x = output_y; output_y = o;", ""),
+    ("the paths in the wrong order", "verdict",
+     "uint16_t *p = path_a; path_a = path_b; path_b = p; uint8_t *o = output_x; output_x = output_y; output_y = o;", ""),
     ("an output code changed", "verdict", "", "if (!r && answer[6]) output_y[0] ^= 1;"),
     ("a word one code longer", "verdict", "", "if (!r && answer[0]) word[answer[2]++] = 1;"),
     ("a byte after the list", "verdict", "", "if (!r) word[word_length] ^= 1;"),
@@ -32,7 +33,7 @@ FAULTS = (
     ("what is read is changed", "translate", "", "if (!r && input_length) ((uint8_t *)input)[0] ^= 1;"),
     ("the record is lost", "useful_states", "", "r &= 0xffff;"),
     ("no record for the last number", "check", "", "if (YOTSELINA_NUMBER(r) == 6) r = 6;"),
-    ("the file is refused before the answer list", "write", "", "if (r == 100 && yotselina_check(file, file_length)) r = yotselina_check(file, file_length);"),
+    ("the file is refused before the answer list", "write", "uint32_t f = yotselina_check(file, file_length);", "if (r == 100 && f) r = f;"),
     ("7 before the file's number", "useful_pairs", "if (answer_length && flags_length < 1024) return 7;", ""),
     ("7 before 11", "translate", "", "if (r == 11 && !output_length) r = 7;"),
     ("10 before 9", "translate", "", "if (r == 9 && !input[input_length - 1]) r = 10;"),

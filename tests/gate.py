@@ -90,13 +90,14 @@ def try_gates(findings):
 
 # --- tests/run -------------------------------------------------------------------------------------------------------
 
-ECHO = 'while read -r word rest; do test "$word" != echo || echo "$rest"; done < "$3"'  # a foma that gives each question the answer below
+# a foma that answers every question of its script by TRUE
+ALWAYS = 'while read -r word rest; do test "$word" != echo || { echo "$rest"; echo "1 (1 = TRUE, 0 = FALSE)"; }; done < "$3"'
 
 # what is tried, the part that is run, a program by that name that comes first, variables, expected counts, what is said
 RUNS = (
     ("a foma that says nothing", "foma", ("foma", "exit 0"), {}, (0, 1), "0 answers to 6 questions"),
     ("a foma that fails", "foma", ("foma", "exit 1"), {}, (0, 1), "exit status 1"),
-    ("a foma that always says the same", "foma", ("foma", ECHO.replace('"$rest"', '"$rest"; echo "1 (1 = TRUE, 0 = FALSE)"')), {}, (0, 1), "is answered by"),
+    ("a foma that always says the same", "foma", ("foma", ALWAYS), {}, (0, 1), "is answered by"),
     ("a worker that dies", "tables", ("verdict", "kill -9 $PPID"), {}, (0, 1), "a worker died"),
     ("a program that fails", "tables", ("verdict", "exit 1"), {}, (None, None), "exit status 1"),
     ("a program that prints nothing", "tables", ("verdict", "exit 0"), {}, (None, None), "nothing is printed"),

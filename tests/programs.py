@@ -20,9 +20,9 @@ class Broken(Exception):
 
 def find(variable):
     """The path of a program: where the build leaves it, or what the variable names."""
-    path = ROOT / setting(variable)
-    if shutil.which(path) is None:
-        raise Missing(f"no program at {path}: build it, or name it in {variable}")
+    path = shutil.which(str(ROOT / setting(variable)))
+    if path is None:
+        raise Missing(f"no program at {ROOT / setting(variable)}: build it, or name it in {variable}")
     return path
 
 

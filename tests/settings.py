@@ -1,4 +1,4 @@
-"""What the surroundings may choose when the tests are run by hand. The gate (.ci/run) clears all of these, so that it runs everything on what it has built."""
+"""What the surroundings may choose when the tests are run by hand. The gate (.ci/run) clears all of it: it runs everything, on what it has built."""
 
 import os
 
