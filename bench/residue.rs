@@ -1,150 +1,119 @@
-// The functionality test of document 000 (theorem 3.23, corollary 3.24) in plain Rust, to measure the verdict program against.
-// Reads a valid table file on standard input and prints the verdict record: 0 (single) or 1 (split), and u. It shows no witness.
+//! The yardstick of the verdict: the functionality test of document 000 (theorem 3.23, corollary 3.24) in plain Rust. It shows no witness.
 
-use std::io::Read;
+use crate::plain::{read, Transducer, Transition};
 
-struct Transition {
-    target: usize,
-    input: u16,
-    output: Vec<u8>,
-}
-
-struct Transducer {
-    states: usize,
-    starts: Vec<usize>,
-    finals: Vec<usize>,
-    leaving: Vec<Vec<Transition>>,
-}
-
-// One step of a pair of states: the pair it enters, and the transitions taken on each side, if any.
-struct Step<'a> {
-    target: usize,
-    left: Option<&'a Transition>,
-    right: Option<&'a Transition>,
-}
-
-// How far one side has written more than the other: the unmatched end, and whether the left side wrote it.
-#[derive(Clone, PartialEq)]
+/// What one side of a pair has written more than the other: the unmatched end, and whether the left side wrote it.
+#[derive(Clone)]
 struct Residue {
     left_ahead: bool,
     unmatched: Vec<u8>,
 }
 
-fn numbers(record: &str) -> Vec<usize> {
-    record[1..].as_bytes().chunks(4).map(|field| std::str::from_utf8(field).unwrap().trim().parse().unwrap()).collect()
+/// The transitions by the state that a step of a pair begins in, and by the one that it ends in.
+struct Steps<'a> {
+    lists: Vec<Vec<&'a Transition>>,
+    other_end: fn(&Transition) -> usize,
 }
 
-fn read(text: &str) -> Transducer {
-    let mut records = text.lines();
-    let header = numbers(records.next().unwrap());
-    let mut states = |count: usize| (0..count).map(|_| numbers(records.next().unwrap())[0]).collect::<Vec<_>>();
-    let (starts, finals) = (states(header[1]), states(header[2]));
-    let mut leaving: Vec<Vec<Transition>> = (0..header[0]).map(|_| Vec::new()).collect();
-    for record in records {
-        let fields = numbers(record);
-        let output = fields[4..].iter().map(|&code| code as u8).collect();
-        leaving[fields[0]].push(Transition { target: fields[1], input: fields[2] as u16, output });
+impl<'a> Steps<'a> {
+    fn forward(transducer: &'a Transducer) -> Self {
+        Steps { lists: transducer.index(|transition| transition.source), other_end: |transition| transition.target }
     }
-    Transducer { states: header[0], starts, finals, leaving }
-}
 
-// All steps of a pair; the pair (p, q) has the number p * states + q.
-fn steps(transducer: &Transducer, pair: usize) -> Vec<Step<'_>> {
-    let (p, q) = (pair / transducer.states, pair % transducer.states);
-    let mut steps = Vec::new();
-    for left in &transducer.leaving[p] {
-        if left.input == 0 {
-            steps.push(Step { target: left.target * transducer.states + q, left: Some(left), right: None });
-            continue;
-        }
-        for right in transducer.leaving[q].iter().filter(|right| right.input == left.input) {
-            steps.push(Step { target: left.target * transducer.states + right.target, left: Some(left), right: Some(right) });
-        }
+    fn backward(transducer: &'a Transducer) -> Self {
+        Steps { lists: transducer.index(|transition| transition.target), other_end: |transition| transition.source }
     }
-    for right in transducer.leaving[q].iter().filter(|right| right.input == 0) {
-        steps.push(Step { target: p * transducer.states + right.target, left: None, right: Some(right) });
-    }
-    steps
-}
 
-// The pairs that the edges reach from the roots.
-fn reached(count: usize, roots: &[usize], edges: impl Fn(usize) -> Vec<usize>) -> Vec<bool> {
-    let mut seen = vec![false; count];
-    let mut waiting = roots.to_vec();
-    roots.iter().for_each(|&root| seen[root] = true);
-    while let Some(pair) = waiting.pop() {
-        for other in edges(pair) {
-            if !seen[other] {
-                seen[other] = true;
-                waiting.push(other);
+    /// All steps of a pair: the pair that each leads to, and what it writes on the left and on the right. Ends with what `visit` first refuses.
+    fn all(&self, (p, q): (usize, usize), mut visit: impl FnMut((usize, usize), &'a [u8], &'a [u8]) -> bool) -> bool {
+        for left in &self.lists[p] {
+            let to = (self.other_end)(left);
+            if left.input == 0 {
+                if !visit((to, q), left.output(), &[]) {
+                    return false;
+                }
+                continue;
+            }
+            for right in self.lists[q].iter().filter(|right| right.input == left.input) {
+                if !visit((to, (self.other_end)(right)), left.output(), right.output()) {
+                    return false;
+                }
             }
         }
+        self.lists[q].iter().filter(|right| right.input == 0).all(|right| visit((p, (self.other_end)(right)), &[], right.output()))
+    }
+}
+
+/// The allowed pairs that the steps reach from two of the given states.
+fn reached(steps: &Steps, from: &[usize], allowed: impl Fn(usize, usize) -> bool) -> Vec<Vec<bool>> {
+    let count = steps.lists.len();
+    let mut seen = vec![vec![false; count]; count];
+    let mut waiting: Vec<_> = pairs(from).filter(|&(p, q)| allowed(p, q)).collect();
+    waiting.iter().for_each(|&(p, q)| seen[p][q] = true);
+    while let Some(pair) = waiting.pop() {
+        steps.all(pair, |(p, q), _, _| {
+            if !seen[p][q] && allowed(p, q) {
+                seen[p][q] = true;
+                waiting.push((p, q));
+            }
+            true
+        });
     }
     seen
 }
 
-fn pairs_of(states: &[usize], count: usize) -> Vec<usize> {
-    states.iter().flat_map(|&p| states.iter().map(move |&q| p * count + q)).collect()
+fn pairs(states: &[usize]) -> impl Iterator<Item = (usize, usize)> + '_ {
+    states.iter().flat_map(move |&p| states.iter().map(move |&q| (p, q)))
 }
 
-// The useful pairs: reached from two start states, and leading to two final ones.
-fn useful_pairs(transducer: &Transducer, square: &[Vec<Step>]) -> Vec<bool> {
-    let starts = pairs_of(&transducer.starts, transducer.states);
-    let forward = reached(square.len(), &starts, |pair| square[pair].iter().map(|step| step.target).collect());
-    let mut entered_from = vec![Vec::new(); square.len()];
-    for pair in (0..square.len()).filter(|&pair| forward[pair]) {
-        square[pair].iter().for_each(|step| entered_from[step.target].push(pair));
-    }
-    let ends: Vec<usize> = pairs_of(&transducer.finals, transducer.states).into_iter().filter(|&pair| forward[pair]).collect();
-    reached(square.len(), &ends, |pair| entered_from[pair].clone())
-}
-
-// The residue after a step; None for a clash.
-fn advanced(residue: &Residue, left: &[u8], right: &[u8]) -> Option<Residue> {
-    let ahead = &residue.unmatched[..];
-    let (first, second) = if residue.left_ahead { ([ahead, left].concat(), right.to_vec()) } else { (left.to_vec(), [ahead, right].concat()) };
-    let common = first.iter().zip(&second).take_while(|(a, b)| a == b).count();
-    match (first.len() > common, second.len() > common) {
-        (true, true) => None,
-        (true, false) => Some(Residue { left_ahead: true, unmatched: first[common..].to_vec() }),
-        (false, _) => Some(Residue { left_ahead: false, unmatched: second[common..].to_vec() }),
+/// The residue after a step, in what the step writes or in `ahead`, which is overwritten; None for a clash.
+fn after<'a>(residue: &Residue, left: &'a [u8], right: &'a [u8], ahead: &'a mut Vec<u8>) -> Option<(bool, &'a [u8])> {
+    let (own, other) = if residue.left_ahead { (left, right) } else { (right, left) };
+    ahead.clear();
+    ahead.extend_from_slice(&residue.unmatched);
+    ahead.extend_from_slice(own);
+    let common = ahead.iter().zip(other).take_while(|(a, b)| a == b).count();
+    match (&ahead[common..], &other[common..]) {
+        ([], []) => Some((false, &[])),
+        (longer, []) => Some((residue.left_ahead, longer)),
+        ([], longer) => Some((!residue.left_ahead, longer)),
+        _ => None,
     }
 }
 
-fn output(transition: Option<&Transition>) -> &[u8] {
-    transition.map_or(&[], |transition| &transition.output)
-}
-
-// Each useful pair must have one residue, and final pairs the empty one.
-fn functional(transducer: &Transducer, square: &[Vec<Step>], useful: &[bool]) -> bool {
-    let level = Residue { left_ahead: false, unmatched: Vec::new() };
-    let mut residues: Vec<Option<Residue>> = vec![None; square.len()];
-    let mut waiting: Vec<usize> = pairs_of(&transducer.starts, transducer.states).into_iter().filter(|&pair| useful[pair]).collect();
-    waiting.iter().for_each(|&pair| residues[pair] = Some(level.clone()));
-    while let Some(pair) = waiting.pop() {
-        let residue = residues[pair].clone().unwrap();
-        for step in square[pair].iter().filter(|step| useful[step.target]) {
-            let after = advanced(&residue, output(step.left), output(step.right));
-            match (&after, &residues[step.target]) {
-                (None, _) => return false,
-                (Some(_), None) => {
-                    residues[step.target] = after;
-                    waiting.push(step.target);
-                }
-                (Some(new), Some(old)) if new != old => return false,
-                _ => {}
+/// Each useful pair must have one residue, and final pairs the empty one.
+fn functional(transducer: &Transducer, steps: &Steps, useful: &[Vec<bool>]) -> bool {
+    let mut residues: Vec<Vec<Option<Residue>>> = vec![vec![None; transducer.states]; transducer.states];
+    let mut waiting: Vec<_> = pairs(&transducer.starts).filter(|&(p, q)| useful[p][q]).collect();
+    waiting.iter().for_each(|&(p, q)| residues[p][q] = Some(Residue { left_ahead: false, unmatched: Vec::new() }));
+    let mut ahead = Vec::new();
+    while let Some((p, q)) = waiting.pop() {
+        let residue = residues[p][q].clone().unwrap();
+        let agree = steps.all((p, q), |(p, q), left, right| {
+            if !useful[p][q] {
+                return true;
             }
+            let Some((left_ahead, unmatched)) = after(&residue, left, right, &mut ahead) else { return false };
+            if let Some(old) = &residues[p][q] {
+                return old.left_ahead == left_ahead && old.unmatched == unmatched;
+            }
+            residues[p][q] = Some(Residue { left_ahead, unmatched: unmatched.to_vec() });
+            waiting.push((p, q));
+            true
+        });
+        if !agree {
+            return false;
         }
     }
-    pairs_of(&transducer.finals, transducer.states).iter().all(|&pair| residues[pair].as_ref().is_none_or(|residue| *residue == level))
+    pairs(&transducer.finals).all(|(p, q)| residues[p][q].as_ref().is_none_or(|residue| residue.unmatched.is_empty()))
 }
 
-fn main() {
-    let mut text = String::new();
-    std::io::stdin().read_to_string(&mut text).unwrap();
-    let transducer = read(&text);
-    let square: Vec<Vec<Step>> = (0..transducer.states * transducer.states).map(|pair| steps(&transducer, pair)).collect();
-    let useful = useful_pairs(&transducer, &square);
-    let split = !functional(&transducer, &square, &useful);
-    println!("V{:>6}{:>6}", split as u8, useful.iter().filter(|&&pair| pair).count());
+/// Whether the table of a valid file is split, and u.
+pub fn decide(file: &[u8]) -> (bool, usize) {
+    let transducer = read(file);
+    let steps = Steps::forward(&transducer);
+    let begun = reached(&steps, &transducer.starts, |_, _| true);
+    let useful = reached(&Steps::backward(&transducer), &transducer.finals, |p, q| begun[p][q]);
+    let split = !functional(&transducer, &steps, &useful);
+    (split, useful.iter().flatten().filter(|&&pair| pair).count())
 }
