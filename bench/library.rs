@@ -1,4 +1,4 @@
-//! The library's calls (include/yotselina.h), over memory that is lent once and used again by each call.
+//! The library's calls (include/yotselina.h), over buffers that are made once and used again by each call.
 
 extern "C" {
     fn yotselina_check(file: *const u8, file_length: usize) -> u32;
@@ -49,8 +49,8 @@ pub const STATES: usize = 32;
 pub const PAIRS: usize = 1_024;
 pub const UNREAD: u32 = 11;
 
-/// What the calls are lent.
-pub struct Lent {
+/// The memory that the calls write to.
+pub struct Buffers {
     word: Vec<u8>,
     paths: [Vec<u16>; 2],
     outputs: [Vec<u8>; 2],
@@ -60,9 +60,9 @@ pub struct Lent {
     answer: [u64; 7],
 }
 
-impl Lent {
-    pub fn new() -> Lent {
-        Lent {
+impl Buffers {
+    pub fn new() -> Buffers {
+        Buffers {
             word: vec![0; WITNESS],
             paths: [vec![0; WITNESS], vec![0; WITNESS]],
             outputs: [vec![0; WITNESS_OUTPUT], vec![0; WITNESS_OUTPUT]],

@@ -8,7 +8,7 @@ mod search;
 mod stack;
 mod tables;
 
-use library::Lent;
+use library::Buffers;
 use std::hint::black_box;
 use tables::*;
 
@@ -25,7 +25,7 @@ extern "C" {
 }
 
 const PROCESS_TIME: i32 = 2; // CLOCK_PROCESS_CPUTIME_ID
-const SAMPLE: f64 = 1_000.0; // microseconds that the calls of one repetition take at least, together
+const SAMPLE: f64 = 2_000.0; // microseconds that the calls of one repetition take at least, together
 
 /// The processor time of this process, in microseconds.
 fn now() -> f64 {
@@ -102,76 +102,71 @@ impl Row {
 fn compare<T: PartialEq + std::fmt::Debug>(name: &str, answer: T, expected: T) {
     if answer != expected {
         let cut = |answer| format!("{answer:?}").chars().take(200).collect::<String>();
-        eprintln!("bench: {name}: NOT THE SAME ANSWER: the library's is {}, the yardstick's {}", cut(answer), cut(expected));
+        eprintln!("bench: {name}: THE ANSWERS DIFFER: the library's is {}, the yardstick's {}", cut(answer), cut(expected));
         std::process::exit(1)
     }
 }
 
 // --- reading ---------------------------------------------------------------------------------------------------------
 
-fn reading_row(name: &'static str, table: Table, repetitions: usize, lent: &mut Lent) -> Row {
+fn reading_row(name: &str, table: Table, repetitions: usize, buffers: &mut Buffers) -> Row {
     let file = table.file();
     let facts = [grouped(file.len()), plain::read(&file).transitions.len().to_string()];
-    let mut ours = || compare(name, lent.check(black_box(&file)), 0);
+    let mut ours = || compare(name, buffers.check(black_box(&file)), 0);
     let mut yardstick = || drop(black_box(plain::read(black_box(&file))));
     Row::measure(name, facts, repetitions, &mut ours, &mut yardstick)
 }
 
 // --- the verdict -----------------------------------------------------------------------------------------------------
 
-type Tables = Vec<(String, Table)>;
+/// A name, whether the table is split, and the table.
+type Tables = Vec<(String, bool, Table)>;
 
-/// Tables that are measured in a group of their own. Single and split stand side by side.
 fn verdict_tables() -> Vec<(&'static str, Tables)> {
-    let both = |name: &str, single: Table, split: Table| vec![(format!("{name}, single"), single), (format!("{name}, split"), split)];
-    let changed = |name: &str, table: Table| both(name, table.clone(), table.changed());
-    let ring_row = |states, k, codes| (format!("ring of {states}, k = {k}, {codes} codes"), ring(states, k / states, codes));
+    let single = |name: &str, table: Table| vec![(name.to_string(), false, table)];
+    let split = |name: &str, table: Table| vec![(name.to_string(), true, table)];
+    let both = |name: &str, table: Table| [single(name, table.clone()), split(name, table.changed())].concat();
+    let ring_row = |states, k, codes| (format!("ring of {states}, k = {k}, codes a line: {codes}"), false, ring(states, k / states, codes));
+    let small = [single("one state, no lines", one_state()), split("P", p()), single("D", d([5, 6])), split("D", d([6, 5]))].concat();
+    let cyclic = [
+        both("cycles of 15 and 17, 8 lines each", cycles(15, 17, 8)),
+        both("cycles of 15 and 17, 1 line each", cycles(15, 17, 1)),
+        both("ring of 32, 8 lines each", ring(32, 8, 8)),
+        single("ring of 32, 8 lines each, no codes", ring(32, 8, 0)),
+    ];
+    let wide = [
+        single("deterministic", deterministic()),
+        split("deterministic but for one line", deterministic().twin().changed()),
+        both("dense, 16 states all to all, 1 input", dense(16, 1)),
+        both("dense, 32 states, 2 inputs", dense(32, 2)),
+        both("dense, 32 states, 8 inputs", dense(32, 8)),
+        single("dense, 32 states, 8 inputs, no final state", dense(32, 8).without_finals()),
+    ];
+    let late = [
+        both("delayed by 480 codes, 1 line each", delayed(4, 1)),
+        both("delayed by 480 codes, 3 lines each", delayed(4, 3)),
+        both("delayed by 960 codes, 1 line each", delayed(8, 1)),
+        single("delayed by 248 codes, lines that read nothing", silent()),
+    ];
     vec![
-        ("Small tables of document 01", [vec![("P, split".into(), p())], both("D", d([5, 6]), d([6, 5]))].concat()),
-        (
-            "Cycles and rings",
-            [
-                changed("cycles of 15 and 17, 8 lines each", cycles(15, 17, 8)),
-                changed("cycles of 15 and 17, 1 line each", cycles(15, 17, 1)),
-                changed("ring of 32, 8 lines each", ring(32, 8, 8)),
-                vec![("ring of 32, 8 lines each, no codes, single".into(), ring(32, 8, 0))],
-            ]
-            .concat(),
-        ),
-        (
-            "Deterministic and dense, 256 lines",
-            [
-                both("deterministic", deterministic(), deterministic().twin().changed()),
-                changed("dense, 16 states all to all, 1 input", dense(16, 1)),
-                changed("dense, 32 states, 2 inputs", dense(32, 2)),
-                changed("dense, 32 states, 8 inputs", dense(32, 8)),
-                vec![("dense, 32 states, 8 inputs, no final state, single".into(), dense(32, 8).without_finals())],
-            ]
-            .concat(),
-        ),
-        (
-            "Delayed: one side is ahead by so many codes before they are level again",
-            [
-                changed("delayed by 480 codes, 1 line each", delayed(4, 1)),
-                changed("delayed by 480 codes, 3 lines each", delayed(4, 3)),
-                changed("delayed by 960 codes, 1 line each", delayed(8, 1)),
-                vec![("delayed by 248 codes at lines that read nothing, single".into(), silent())],
-            ]
-            .concat(),
-        ),
+        ("Small tables of document 01", small),
+        ("Cycles and rings", cyclic.concat()),
+        ("Deterministic and dense, 256 lines", wide.concat()),
+        ("Delayed: one side is ahead by so many codes before they are level again", late.concat()),
         ("Growth with n", [2, 4, 8, 16, 32].map(|states| ring_row(states, 64, 4)).to_vec()),
         ("Growth with k", [16, 32, 64, 128, 256].map(|k| ring_row(16, k, 4)).to_vec()),
         ("Growth with the codes of a line", [0, 1, 2, 4, 8].map(|codes| ring_row(16, 128, codes)).to_vec()),
     ]
 }
 
-fn verdict_row(name: String, table: Table, repetitions: usize, lent: &mut Lent) -> Row {
+fn verdict_row(name: &str, split: bool, table: Table, repetitions: usize, buffers: &mut Buffers) -> Row {
     let file = table.file();
-    let (split, useful) = residue::decide(&file);
+    let (found, useful) = residue::decide(&file);
+    assert_eq!(found, split, "{name}: residue.rs does not give the verdict that the table was made for");
     let facts = [["single", "split"][split as usize].to_string(), useful.to_string()];
-    let mut ours = || compare(&name, lent.verdict(black_box(&file)), (0, split as u64, useful as u64));
-    let mut yardstick = || compare(&name, residue::decide(black_box(&file)), (split, useful));
-    Row::measure(&name, facts, repetitions, &mut ours, &mut yardstick)
+    let mut ours = || compare(name, buffers.verdict(black_box(&file)), (0, split as u64, useful as u64));
+    let mut yardstick = || assert!(residue::decide(black_box(&file)) == (split, useful));
+    Row::measure(name, facts, repetitions, &mut ours, &mut yardstick)
 }
 
 // --- the translator --------------------------------------------------------------------------------------------------
@@ -180,73 +175,66 @@ type Translations = Vec<(&'static str, Table, Vec<u8>)>;
 
 /// On single tables only: on others the two may follow different paths.
 fn translations() -> Vec<(&'static str, Translations)> {
-    let lengths = |name, table: Table, inputs| [1, 16, 255].map(|length| (name, table.clone(), word(inputs, length))).to_vec();
-    vec![
-        (
-            "Words of 1, 16 and 255 codes",
-            [
-                lengths("deterministic, 256 lines", deterministic(), 8),
-                lengths("ring of 32, 8 lines each", ring(32, 8, 8), 1),
-                lengths("32 states at every position, lines that read nothing", silent(), 1),
-            ]
-            .concat(),
-        ),
-        (
-            "Dense and delayed",
-            vec![
-                ("dense, 16 states all to all, 1 input", dense(16, 1), word(1, 255)),
-                ("dense, 32 states, 2 inputs", dense(32, 2), word(2, 255)),
-                ("dense, 32 states, 8 inputs", dense(32, 8), word(8, 255)),
-                ("dense, 32 states, 8 inputs, no final state", dense(32, 8).without_finals(), word(8, 255)),
-                ("delayed by 480 codes, 3 lines each", delayed(4, 3), delayed_word(4)),
-                ("delayed by 960 codes, 1 line each", delayed(8, 1), delayed_word(8)),
-            ],
-        ),
-    ]
+    let lengths = |name, table: Table, inputs| [1, 16, 255].map(|length| (name, table.clone(), word(inputs, length)));
+    let growth = [
+        lengths("deterministic, 256 lines", deterministic(), 8),
+        lengths("ring of 32, 8 lines each", ring(32, 8, 8), 1),
+        lengths("32 states at every position, lines that read nothing", silent(), 1),
+    ];
+    let longest = vec![
+        ("dense, 16 states all to all, 1 input", dense(16, 1), word(1, 255)),
+        ("dense, 32 states, 2 inputs", dense(32, 2), word(2, 255)),
+        ("dense, 32 states, 8 inputs", dense(32, 8), word(8, 255)),
+        ("dense, 32 states, 8 inputs, no final state", dense(32, 8).without_finals(), word(8, 255)),
+        ("delayed by 480 codes, 3 lines each", delayed(4, 3), delayed_word(4)),
+        ("delayed by 960 codes, 1 line each", delayed(8, 1), delayed_word(8)),
+    ];
+    let small = vec![("one state, no lines", one_state(), word(1, 0)), ("D", d([5, 6]), word(2, 2))];
+    vec![("Small tables of document 01", small), ("Growth with the word", growth.concat()), ("Dense and delayed", longest)]
 }
 
-fn translation_row(name: &'static str, table: Table, word: &[u8], repetitions: usize, lent: &mut Lent) -> Row {
+fn translation_row(name: &str, table: Table, word: &[u8], repetitions: usize, buffers: &mut Buffers) -> Row {
     let file = table.file();
     let found = search::translate(&file, word);
     let expected = found.as_deref().ok_or(library::UNREAD);
     let facts = [word.len().to_string(), expected.map_or("unread".into(), |output| grouped(output.len()))];
-    lent.output.fill(0);
-    let mut ours = || compare(name, lent.translate(black_box(&file), black_box(word)), expected);
-    let mut yardstick = || compare(name, search::translate(black_box(&file), black_box(word)).as_deref(), found.as_deref());
+    buffers.output.fill(0);
+    let mut ours = || compare(name, buffers.translate(black_box(&file), black_box(word)), expected);
+    let mut yardstick = || assert!(search::translate(black_box(&file), black_box(word)) == found);
     Row::measure(name, facts, repetitions, &mut ours, &mut yardstick)
 }
 
 // --- memory ----------------------------------------------------------------------------------------------------------
 
 /// The most stack that each call needs on all files and words that are measured.
-fn print_memory(lent: &mut Lent) {
+fn print_memory(buffers: &mut Buffers) {
     let mut given: Vec<(Vec<u8>, Vec<u8>)> = Vec::new();
     for (_, rows) in translations() {
         given.extend(rows.into_iter().map(|(_, table, word)| (table.file(), word)));
     }
     for (_, tables) in verdict_tables() {
-        given.extend(tables.into_iter().map(|(_, table)| (table.file(), Vec::new())));
+        given.extend(tables.into_iter().map(|(_, _, table)| (table.file(), Vec::new())));
     }
-    type Call = fn(&mut Lent, &[u8], &[u8]) -> u32;
+    type Call = fn(&mut Buffers, &[u8], &[u8]) -> u32;
     let calls: [(&str, usize, Call); 7] = [
-        ("check", 0, |lent, file, _| lent.check(file)),
-        ("verdict", 5 * library::WITNESS + 2 * library::WITNESS_OUTPUT + 7 * 8, |lent, file, _| lent.verdict(file).0),
-        ("translate", library::OUTPUT + 8, |lent, file, word| lent.translate(file, word).err().unwrap_or(0)),
-        ("useful_states", library::STATES, |lent, file, _| lent.useful_states(file)),
-        ("useful_pairs", library::PAIRS + 8, |lent, file, _| lent.useful_pairs(file)),
-        ("difference", 2 * 8, |lent, file, word| lent.difference(file, word)),
-        ("write", library::FILE + 8, |lent, file, _| lent.write(file)),
+        ("check", 0, |buffers, file, _| buffers.check(file)),
+        ("verdict", 5 * library::WITNESS + 2 * library::WITNESS_OUTPUT + 7 * 8, |buffers, file, _| buffers.verdict(file).0),
+        ("translate", library::OUTPUT + 8, |buffers, file, word| buffers.translate(file, word).err().unwrap_or(0)),
+        ("useful_states", library::STATES, |buffers, file, _| buffers.useful_states(file)),
+        ("useful_pairs", library::PAIRS + 8, |buffers, file, _| buffers.useful_pairs(file)),
+        ("difference", 2 * 8, |buffers, file, word| buffers.difference(file, word)),
+        ("write", library::FILE + 8, |buffers, file, _| buffers.write(file)),
     ];
-    println!("\n## Memory of each call\n\n| call | stack, bytes | lent, bytes |\n|---|---|---|");
-    for (name, lent_bytes, call) in calls {
+    println!("\n## Memory of each call\n\n| call | stack, bytes | lent buffers, bytes |\n|---|---|---|");
+    for (name, bytes, call) in calls {
         let depth = |(file, word): &(Vec<u8>, Vec<u8>)| {
             stack::depth(&mut || {
-                let returned = call(lent, file, word);
+                let returned = call(buffers, file, word);
                 assert!(returned == 0 || returned == library::UNREAD, "{name} refuses with {returned}");
             })
         };
         let stack = given.iter().map(depth).max().unwrap();
-        println!("| `yotselina_{name}` | {} | {} |", grouped(stack), grouped(lent_bytes));
+        println!("| `yotselina_{name}` | {} | {} |", grouped(stack), grouped(bytes));
     }
 }
 
@@ -310,26 +298,29 @@ fn digits(number: f64) -> String {
 
 fn main() {
     let arguments: Vec<String> = std::env::args().collect();
-    let repetitions = arguments[1].parse().ok().filter(|&number| number > 0).expect("how many repetitions");
+    let Some(repetitions) = arguments[1].parse().ok().filter(|&number| number > 0) else {
+        eprintln!("bench: the number of repetitions is not {}", arguments[1]);
+        std::process::exit(2)
+    };
     let load = std::fs::read_to_string("/proc/loadavg").unwrap_or_default();
     let load = load.split(' ').next().unwrap();
     let processors = std::thread::available_parallelism().map_or(0, usize::from);
-    let lent = &mut Lent::new();
+    let buffers = &mut Buffers::new();
 
     let mut verdict =
         Section { title: "Verdict", library: "yotselina_verdict", yardstick: "residue.rs", facts: ["verdict", "u"], groups: Vec::new() };
     for (title, tables) in verdict_tables() {
-        let rows = tables.into_iter().map(|(name, table)| verdict_row(name, table, repetitions, lent));
+        let rows = tables.into_iter().map(|(name, split, table)| verdict_row(&name, split, table, repetitions, buffers));
         verdict.groups.push((title, rows.collect()));
     }
     let facts = ["codes read", "codes written"];
     let mut translation = Section { title: "Translation", library: "yotselina_translate", yardstick: "search.rs", facts, groups: Vec::new() };
     for (title, rows) in translations() {
-        let rows = rows.into_iter().map(|(name, table, word)| translation_row(name, table, &word, repetitions, lent));
+        let rows = rows.into_iter().map(|(name, table, word)| translation_row(name, table, &word, repetitions, buffers));
         translation.groups.push((title, rows.collect()));
     }
-    let files = [("P", p()), ("D", d([5, 6])), ("dense, 32 states, 8 inputs", dense(32, 8))];
-    let rows = files.map(|(name, table)| reading_row(name, table, repetitions, lent)).into();
+    let files = [("one state, no lines", one_state()), ("D", d([5, 6])), ("dense, 32 states, 8 inputs", dense(32, 8))];
+    let rows = files.map(|(name, table)| reading_row(name, table, repetitions, buffers)).into();
     let groups = vec![("The file alone", rows)];
     let reading = Section { title: "Reading", library: "yotselina_check", yardstick: "plain.rs", facts: ["bytes", "lines"], groups };
 
@@ -340,5 +331,5 @@ fn main() {
     let sections = [verdict, translation, reading];
     sections.iter().for_each(Section::print_worst);
     sections.iter().for_each(Section::print);
-    print_memory(lent);
+    print_memory(buffers);
 }

@@ -1,7 +1,7 @@
 //! The tables that are measured, as the bytes of their files.
 
 #[derive(Clone)]
-pub struct Line {
+pub struct Transition {
     source: usize,
     target: usize,
     input: usize,
@@ -13,11 +13,11 @@ pub struct Table {
     states: usize,
     starts: Vec<usize>,
     finals: Vec<usize>,
-    lines: Vec<Line>,
+    transitions: Vec<Transition>,
 }
 
-fn line(source: usize, target: usize, input: usize, output: Vec<usize>) -> Line {
-    Line { source, target, input, output }
+fn transition(source: usize, target: usize, input: usize, output: Vec<usize>) -> Transition {
+    Transition { source, target, input, output }
 }
 
 /// So many output codes that depend on a number.
@@ -29,27 +29,28 @@ impl Table {
     /// The table's file (document 01).
     pub fn file(&self) -> Vec<u8> {
         let record = |letter: &str, numbers: &[usize]| letter.to_string() + &numbers.iter().map(|n| format!("{n:4}")).collect::<String>() + "\n";
-        let mut text = record("T", &[self.states, self.starts.len(), self.finals.len(), self.lines.len()]);
+        let mut text = record("T", &[self.states, self.starts.len(), self.finals.len(), self.transitions.len()]);
         self.starts.iter().for_each(|&state| text += &record("S", &[state]));
         self.finals.iter().for_each(|&state| text += &record("F", &[state]));
-        for line in &self.lines {
-            text += &record("L", &[&[line.source, line.target, line.input, line.output.len()], &line.output[..]].concat());
+        for transition in &self.transitions {
+            text +=
+                &record("L", &[&[transition.source, transition.target, transition.input, transition.output.len()], &transition.output[..]].concat());
         }
         text.into_bytes()
     }
 
-    /// The last line writes another first code.
+    /// The last transition writes another first code.
     pub fn changed(mut self) -> Table {
-        let last = self.lines.last_mut().unwrap();
+        let last = self.transitions.last_mut().unwrap();
         let rest = last.output.get(1..).unwrap_or(&[]).to_vec();
         last.output = [vec![251 - last.output.first().unwrap_or(&1)], rest].concat();
         self
     }
 
-    /// The last line becomes a copy of the one before it.
+    /// The last transition becomes a copy of the one before it.
     pub fn twin(mut self) -> Table {
-        self.lines.pop();
-        self.lines.push(self.lines.last().unwrap().clone());
+        self.transitions.pop();
+        self.transitions.push(self.transitions.last().unwrap().clone());
         self
     }
 
@@ -59,75 +60,82 @@ impl Table {
     }
 }
 
+/// One state, start and final, and no transitions.
+pub fn one_state() -> Table {
+    Table { states: 1, starts: vec![0], finals: vec![0], transitions: vec![] }
+}
+
 /// Table P of document 01.
 pub fn p() -> Table {
-    Table { states: 1, starts: vec![0], finals: vec![0], lines: vec![line(0, 0, 1, vec![5]), line(0, 0, 1, vec![6])] }
+    Table { states: 1, starts: vec![0], finals: vec![0], transitions: vec![transition(0, 0, 1, vec![5]), transition(0, 0, 1, vec![6])] }
 }
 
-/// Table D of document 01; its last line writes the codes given.
+/// Table D of document 01; its last transition writes the codes given.
 pub fn d(last: [usize; 2]) -> Table {
-    let lines = vec![line(0, 1, 1, vec![5, 6]), line(1, 3, 2, vec![]), line(0, 2, 1, vec![]), line(2, 3, 2, last.to_vec())];
-    Table { states: 4, starts: vec![0], finals: vec![3], lines }
+    let transitions =
+        vec![transition(0, 1, 1, vec![5, 6]), transition(1, 3, 2, vec![]), transition(0, 2, 1, vec![]), transition(2, 3, 2, last.to_vec())];
+    Table { states: 4, starts: vec![0], finals: vec![3], transitions }
 }
 
-/// One ring in which every state is start and final, each line several times, writing so many codes.
+/// One ring in which every state is start and final, each transition several times, writing so many codes.
 pub fn ring(states: usize, copies: usize, length: usize) -> Table {
-    let lines = (0..states * copies).map(|i| line(i / copies, (i / copies + 1) % states, 1, vec![5; length])).collect();
-    Table { states, starts: (0..states).collect(), finals: (0..states).collect(), lines }
+    let transitions = (0..states * copies).map(|i| transition(i / copies, (i / copies + 1) % states, 1, vec![5; length])).collect();
+    Table { states, starts: (0..states).collect(), finals: (0..states).collect(), transitions }
 }
 
-/// Two cycles that read the same, each line several times, writing eight codes.
+/// Two cycles that read the same, each transition several times, writing eight codes.
 pub fn cycles(first: usize, second: usize, copies: usize) -> Table {
-    let cycle = |start: usize, size: usize| (0..size * copies).map(move |i| line(start + i / copies, start + (i / copies + 1) % size, 1, vec![5; 8]));
+    let cycle =
+        |start: usize, size: usize| (0..size * copies).map(move |i| transition(start + i / copies, start + (i / copies + 1) % size, 1, vec![5; 8]));
     Table {
         states: first + second,
         starts: vec![0, first],
         finals: vec![0, first + second - 1],
-        lines: cycle(0, first).chain(cycle(first, second)).collect(),
+        transitions: cycle(0, first).chain(cycle(first, second)).collect(),
     }
 }
 
-/// 32 states, one start, one line for each of eight inputs at each state, all final: every word over the inputs is read by one path.
+/// 32 states, one start, one transition for each of eight inputs at each state, all final: every word over the inputs is read by one path.
 pub fn deterministic() -> Table {
-    let lines = (0..256).map(|i| line(i / 8, (5 * (i / 8) + i % 8 + 1) % 32, 1 + i % 8, codes(i, 8))).collect();
-    Table { states: 32, starts: vec![0], finals: (0..32).collect(), lines }
+    let transitions = (0..256).map(|i| transition(i / 8, (5 * (i / 8) + i % 8 + 1) % 32, 1 + i % 8, codes(i, 8))).collect();
+    Table { states: 32, starts: vec![0], finals: (0..32).collect(), transitions }
 }
 
-/// 256 lines spread over so many states and inputs; every state is start and final; what is written depends on the input alone.
+/// 256 transitions spread over so many states and inputs; every state is start and final; what is written depends on the input alone.
 pub fn dense(states: usize, inputs: usize) -> Table {
     let each = 256 / states;
-    let lines = (0..256).map(|i| line(i / each, (i + i / 32) % states, 1 + i % inputs, codes(i % inputs, 8))).collect();
-    Table { states, starts: (0..states).collect(), finals: (0..states).collect(), lines }
+    let transitions = (0..256).map(|i| transition(i / each, (i + i / 32) % states, 1 + i % inputs, codes(i % inputs, 8))).collect();
+    Table { states, starts: (0..states).collect(), finals: (0..states).collect(), transitions }
 }
 
-/// All lines but one read nothing: the path through all 32 states goes on at each code of the word.
+/// All transitions but one read nothing: the path through all 32 states goes on at each code of the word.
 pub fn silent() -> Table {
-    let lines = (0..32).map(|i| line(i, (i + 1) % 32, (i == 31) as usize, codes(i, 8))).collect();
-    Table { states: 32, starts: vec![0], finals: vec![31], lines }
+    let transitions = (0..32).map(|i| transition(i, (i + 1) % 32, (i == 31) as usize, codes(i, 8))).collect();
+    Table { states: 32, starts: vec![0], finals: vec![31], transitions }
 }
 
 const AGAIN: usize = 249;
 const HALF: usize = 250;
 
-/// Two paths read the word of `delayed_word`. One passes a chain of 16 states, writing 8 codes for each of its 15 lines, as many times as there
+/// Two paths read the word of `delayed_word`. One passes a chain of 16 states, writing 8 codes for each of its 15 transitions, as many times as there
 /// are passes, and then waits; the other waits first, and passes the chain then. So the first is ahead by 120 codes for each pass, in
-/// the middle of the word, and level at its end. Each line several times.
+/// the middle of the word, and level at its end. Each transition several times.
 pub fn delayed(passes: usize, copies: usize) -> Table {
     let (last, before, behind) = (15, 16, 16 + passes);
-    let mut lines = vec![line(last, 0, AGAIN, vec![])];
+    let mut transitions = vec![transition(last, 0, AGAIN, vec![])];
     for pass in 0..passes {
-        lines.extend((0..last).map(|i| line(i, i + 1, pass + 1, codes(15 * pass + i, 8))));
+        transitions.extend((0..last).map(|i| transition(i, i + 1, pass + 1, codes(15 * pass + i, 8))));
         for first in [before, behind] {
-            lines.push(line(first + pass, first + pass, pass + 1, vec![]));
+            transitions.push(transition(first + pass, first + pass, pass + 1, vec![]));
             if pass + 1 < passes {
-                lines.push(line(first + pass, first + pass + 1, AGAIN, vec![]));
+                transitions.push(transition(first + pass, first + pass + 1, AGAIN, vec![]));
             }
         }
     }
-    lines.push(line(behind - 1, 0, HALF, vec![]));
-    lines.push(line(last, behind, HALF, vec![]));
-    let lines = lines.into_iter().flat_map(|line| vec![line; copies]).collect();
-    Table { states: 16 + 2 * passes, starts: vec![0, before], finals: vec![last, behind + passes - 1], lines }
+    transitions.push(transition(behind - 1, 0, HALF, vec![]));
+    transitions.push(transition(last, behind, HALF, vec![]));
+    let transitions = transitions.into_iter().flat_map(|transition| vec![transition; copies]).collect();
+    Table { states: 16 + 2 * passes, starts: vec![0, before], finals: vec![last, behind + passes - 1], transitions }
 }
 
 /// The only word that both paths of `delayed` read.
