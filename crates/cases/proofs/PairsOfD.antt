@@ -14,7 +14,7 @@ use Rattle.transducer.proofs.PathLaws.{path-join}
 use Rattle.pairsearch.specs.Numbers.{pairOf, firstOf, secondOf}
 use Rattle.pairs.specs.UsefulPairs.{hasPair, countTrue}
 use Rattle.functionality.specs.Decided.{UsefulCount}
-use Rattle.cases.specs.Cases.{statesOf, transducerOf, tableD}
+use Rattle.cases.specs.Cases.{setOfStates, transducerOf, tableD}
 use Rattle.cases.proofs.Each.{Each, more, nothing}
 use Rattle.cases.proofs.Pairs.{flagsOf, useful-count}
 use Rattle.cases.proofs.PathsOfD.{below-four, line-0, line-1, line-2, line-3, start-0}
@@ -45,7 +45,7 @@ module _ (last : List ℕ) where
 
   -- a path from 0 to 3, cut anywhere, is accepting
   unfoldable through : {q : ℕ} {front back : List ℕ} → Path (tableD last) 0 front q → Path (tableD last) q back 3 → Through (tableD last) q
-  unfolding transducerOf statesOf withState has
+  unfolding transducerOf setOfStates withState has
   through {q} {front} {back} c g =
       record { first = 0; last = 3; front = front; back = back; starts = refl; comes = c; goes = g; ends = refl }
 

@@ -1,12 +1,11 @@
 -- What the functionality test answers, and what it leaves in the five buffers (document 01, "The verdict").
 use mathlib.Core.Path.{_≡_}
-use mathlib.Core.Bool.{Bool, true, _&&_}
+use mathlib.Core.Bool.{Bool, true, cond, _&&_}
 use mathlib.Core.Logic.{_↔_, _≢_}
 use Prim.Native.Nat.{ℕ, _-_, _*_}
 use lib.Dec.{leb}
 use lib.ListN.{length}
 use Rattle.transducer.specs.Limits.{mostOutputs}
-use Rattle.transducer.specs.StateSet.{pick}
 use Rattle.transducer.specs.Valid.{validOf}
 use Rattle.transducer.specs.Paths.{Functional}
 use Rattle.transducer.specs.Useful.{UsefulPair}
@@ -34,7 +33,7 @@ fullOf b = longEnough (length (b .word)) (length (b .path-a)) (length (b .path-b
 
 -- the refusal: 8 for a transducer that breaks a rule, then 7 for a buffer below its size; 0 where there is none
 unfoldable pub refusalOf : Transducer → Buffers → ℕ
-refusalOf t b = pick (validOf t) (pick (fullOf b) 0 7) 8
+refusalOf t b = cond (validOf t) (cond (fullOf b) 0 7) 8
 
 -- document 01's number of an outcome; 0 is no refusal
 abbrev pub numberOf : Outcome → ℕ

@@ -1,13 +1,12 @@
 -- Sets of pairs of states, and what `useful_pairs` answers.
 use mathlib.Core.Path.{_≡_}
-use mathlib.Core.Bool.{Bool, true, false, _&&_}
+use mathlib.Core.Bool.{Bool, true, false, cond, _&&_}
 use mathlib.Core.List.{List, [], _∷_, map}
 use mathlib.Core.Logic.{_↔_}
 use Prim.Native.Nat.{ℕ, suc}
 use lib.Dec.{ltb}
 use lib.ListN.{length, getD, replicate}
 use Rattle.transducer.specs.Limits.{mostStates}
-use Rattle.transducer.specs.StateSet.{pick}
 use Rattle.transducer.specs.Valid.{validOf}
 use Rattle.transducer.specs.Useful.{UsefulPair}
 use Rattle.transducer.specs.declared.Transducer.{Transducer}
@@ -43,7 +42,7 @@ numberOf Invalid = 8
 -- what `useful_pairs` answers: refusal 8 exactly where the transducer breaks a rule, and then the empty set; else the set of the useful pairs;
 -- and how many are in the set (document 01: u)
 pub record UsefulPairsOf (t : Transducer) (r : UsefulPairs) : Type 0 where
-  pub number : numberOf (r .outcome) ≡ pick (validOf t) 0 8
+  pub number : numberOf (r .outcome) ≡ cond (validOf t) 0 8
   pub members : validOf t ≡ true → (p q : ℕ) → (hasPair (r .set) p q ≡ true) ↔ UsefulPair t p q
   pub refused : validOf t ≡ false → r .set ≡ noPairs
   pub counted : r .count ≡ countTrue (r .set .member)

@@ -1,5 +1,6 @@
 -- The ways into and out of the useful pairs. A way is kept as links: for each pair the number of the next one, plus 1, and the label of the step
 -- between the two; 0 where the way ends.
+use mathlib.Core.Bool.{cond}
 use mathlib.Core.Path.{_≡_}
 use mathlib.Core.List.{List}
 use mathlib.Core.Logic.{_↔_, _≢_}
@@ -8,7 +9,6 @@ use lib.Dec.{eqb}
 use lib.ListN.{length, getD}
 use Rattle.worklist.specs.Lists.{Worklist, Found}
 use Rattle.worklist.specs.Search.{Grown}
-use Rattle.transducer.specs.StateSet.{pick}
 use Rattle.transducer.specs.Useful.{UsefulPair}
 use Rattle.transducer.specs.declared.StateSet.{StateSet}
 use Rattle.transducer.specs.declared.Transducer.{Transducer}
@@ -66,7 +66,7 @@ module _ (t : Transducer) (ends : StateSet) (Leads : ℕ → ℕ → ℕ → Typ
 
 -- what stands for a parent in the links: the parent is given as 1 + its place, and becomes 1 + the pair at that place; a root has none, 0
 unfoldable pub linkOf : List ℕ → ℕ → ℕ
-linkOf order from = pick (eqb from 0) 0 (getD order (from - 1) 0 + 1)
+linkOf order from = cond (eqb from 0) 0 (getD order (from - 1) 0 + 1)
 
 -- the lists of a search that has found `count` pairs: at each place another pair, whose parent stands at an older place
 pub record Traced (order parent via : List ℕ) (count : ℕ) : Type 0 where

@@ -1,7 +1,7 @@
 -- Laws of the confined search: how the loops over the pairs and over the labels go on when a node is offered. A node that is not allowed is
 -- passed; one at which the search begins is found already. Assumes nothing.
 use mathlib.Core.Path.{_≡_, refl, ap, _∙_, subst}
-use mathlib.Core.Bool.{Bool, true, false, _&&_}
+use mathlib.Core.Bool.{Bool, true, false, cond, _&&_}
 use mathlib.Core.List.{List}
 use mathlib.Core.Logic.{_≢_}
 use Prim.Native.Nat.{ℕ, _+_, _-_, _*_, _≤_, _<_}
@@ -10,7 +10,7 @@ use native.Mathlib.Omega.{arith}
 use borrow.Author.Tests.{ne-eqb, eqb-true, eqb-false}
 use lib.Dec.{eqb}
 use lib.ListN.{length, getD, length-replicate}
-use Rattle.worklist.specs.Lists.{Worklist, Found, pick, added, visited}
+use Rattle.worklist.specs.Lists.{Worklist, Found, added, visited}
 use Rattle.worklist.specs.Search.{Blank, Rooted, Scanned}
 use Rattle.worklist.proofs.Findings.{Lengths}
 use Rattle.worklist.proofs.Stages.{rooted-skip, rooted-visit, scanned-none, scanned-skip, scanned-visit}
@@ -46,7 +46,7 @@ module _ {starts : StateSet} {allowed : List ℕ} where
       → PairIn starts node → s′ ≡ offered allowed s node 0 0 → Rooted (Begins starts allowed) mostPairs s′ (node + 1)
   rooted-offer {s} {s′} {node} r h p e = go (eqb (getD allowed node 0) 0) refl e
     where
-      go : (b : Bool) → eqb (getD allowed node 0) 0 ≡ b → s′ ≡ pick b s (visited s node 0 0)
+      go : (b : Bool) → eqb (getD allowed node 0) 0 ≡ b → s′ ≡ cond b s (visited s node 0 0)
           → Rooted (Begins starts allowed) mostPairs s′ (node + 1)
       go true d e = rw e (rooted-skip r (λ z. omega (arith, z .inside, eqb-true (getD allowed node 0) 0 d)))
       go false d e = rooted-visit 0 r h (record { start-pair = p; inside = omega (arith, eqb-false (getD allowed node 0) 0 d) }) e
@@ -88,7 +88,7 @@ module _ {t : Transducer} {allowed : List ℕ} where
           → s′ ≡ offered allowed s node (head + 1) label → Scanned (Begins (t .starts) allowed) (Goes t allowed) mostPairs s₀ s′ head low next
       scanned-offer {s′} h move e = go (eqb (getD allowed node 0) 0) refl e (decLt 0 (getD (s .rank) node 0))
         where
-          go : (b : Bool) → eqb (getD allowed node 0) 0 ≡ b → s′ ≡ pick b s (visited s node (head + 1) label) → Dec (Found s node)
+          go : (b : Bool) → eqb (getD allowed node 0) 0 ≡ b → s′ ≡ cond b s (visited s node (head + 1) label) → Dec (Found s node)
               → Scanned (Begins (t .starts) allowed) (Goes t allowed) mostPairs s₀ s′ head low next
           go true d e _ =
               rw e
@@ -97,7 +97,7 @@ module _ {t : Transducer} {allowed : List ℕ} where
               let same : l ≡ label = omega arith in
               omega (arith, ap (λ n. getD allowed n 0) (only v (rw same at (g .moves))), g .inside, eqb-true (getD allowed node 0) 0 d)))
           go false d e (yes f) =
-              rw (e ∙ ap (λ b. pick b (added s node (head + 1) label) s) (ne-eqb (getD (s .rank) node 0) 0 (λ z. omega arith))) (scanned-found f)
+              rw (e ∙ ap (λ b. cond b (added s node (head + 1) label) s) (ne-eqb (getD (s .rank) node 0) 0 (λ z. omega arith))) (scanned-found f)
           go false d e (no f) =
               let inside : Allowed allowed node = omega (arith, eqb-false (getD allowed node 0) 0 d) in
               scanned-visit x q (r .place) h

@@ -2,14 +2,13 @@
 -- has such a label.
 -- Assumes nothing.
 use mathlib.Core.Path.{_≡_, refl}
-use mathlib.Core.Bool.{Bool, true, false}
+use mathlib.Core.Bool.{Bool, true, false, cond}
 use mathlib.Core.Logic.{_≢_}
 use Prim.Native.Nat.{ℕ, _/_, _%_, _<_}
 use native.Mathlib.Omega.{arith}
 use borrow.Author.Tests.{ne-eqb, eqb-true}
 use lib.Dec.{eqb}
 use Rattle.transducer.specs.Limits.{mostStates, mostTransitions}
-use Rattle.transducer.specs.StateSet.{pick}
 use Rattle.transducer.specs.Walks.{both, left, right, inputOf, Edge, Move}
 use Rattle.transducer.specs.declared.Transducer.{Transducer}
 use Rattle.pairsearch.specs.Numbers.{pairOf, firstOf, secondOf, noTransition, sides, labelOf, stepOf, Moves}
@@ -66,7 +65,7 @@ module _ (t : Transducer) (u : ℕ) where
   labelled k v h = go (eqb (k / sides) noTransition) (eqb (k % sides) noTransition) refl refl h
     where
       go : (a b : Bool) → eqb (k / sides) noTransition ≡ a → eqb (k % sides) noTransition ≡ b
-          → Move t (firstOf u) (secondOf u) (pick a (right (k % sides)) (pick b (left (k / sides)) (both (k / sides) (k % sides)))) (firstOf v) (secondOf v)
+          → Move t (firstOf u) (secondOf u) (cond a (right (k % sides)) (cond b (left (k / sides)) (both (k / sides) (k % sides)))) (firstOf v) (secondOf v)
           → Labelled t u k v
       go true b e d h =
           let q = eqb-true (k / sides) noTransition e in

@@ -1,12 +1,13 @@
 -- The worklist search over pairs of states that is confined to a list of numbers, one for each pair: a pair is allowed where its number is
 -- not 0. The search begins at the pairs of start states and goes by steps, to allowed pairs only.
+use mathlib.Core.Bool.{cond}
 use mathlib.Core.Path.{_≡_}
 use mathlib.Core.List.{List}
 use mathlib.Core.Logic.{_≢_}
 use Prim.Native.Nat.{ℕ, _*_, _<_}
 use lib.ListN.{length, getD}
 use lib.Dec.{eqb}
-use Rattle.worklist.specs.Lists.{Worklist, Found, pick, visited}
+use Rattle.worklist.specs.Lists.{Worklist, Found, visited}
 use Rattle.worklist.specs.Search.{Grown}
 use Rattle.transducer.specs.Valid.{Valid}
 use Rattle.transducer.specs.Walks.{inputOf, Edge}
@@ -20,7 +21,7 @@ Allowed allowed v = 0 < getD allowed v 0
 
 -- the state after `node` is visited if it is allowed
 abbrev pub offered : List ℕ → Worklist → ℕ → ℕ → ℕ → Worklist
-offered allowed s node from label = pick (eqb (getD allowed node 0) 0) s (visited s node from label)
+offered allowed s node from label = cond (eqb (getD allowed node 0) 0) s (visited s node from label)
 
 -- the search begins at v: an allowed pair of start states
 pub record Begins (starts : StateSet) (allowed : List ℕ) (v : ℕ) : Type 0 where

@@ -1,8 +1,9 @@
 -- The numbers by which a search over pairs of states knows the pairs and their steps.
+use mathlib.Core.Bool.{cond}
 use Prim.Native.Nat.{ℕ, _+_, _*_, _/_, _%_}
 use lib.Dec.{eqb}
 use Rattle.transducer.specs.Limits.{mostStates, mostTransitions}
-use Rattle.transducer.specs.StateSet.{pick, In}
+use Rattle.transducer.specs.StateSet.{In}
 use Rattle.transducer.specs.Walks.{Step, both, left, right, Move}
 use Rattle.transducer.specs.declared.StateSet.{StateSet}
 use Rattle.transducer.specs.declared.Transducer.{Transducer}
@@ -36,8 +37,8 @@ labelOf l m = l * sides + m
 -- the step with the label k
 unfoldable pub stepOf : ℕ → Step
 stepOf k =
-    pick (eqb (k / sides) noTransition) (right (k % sides))
-    (pick (eqb (k % sides) noTransition) (left (k / sides)) (both (k / sides) (k % sides)))
+    cond (eqb (k / sides) noTransition) (right (k % sides))
+    (cond (eqb (k % sides) noTransition) (left (k / sides)) (both (k / sides) (k % sides)))
 
 -- both states of the pair v are in the set
 pub record PairIn (s : StateSet) (v : ℕ) : Type 0 where

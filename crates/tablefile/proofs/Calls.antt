@@ -1,6 +1,6 @@
 -- The round trips of the calls: over any results that meet the contracts of the reader and of the writer. Assumes nothing.
 use mathlib.Core.Path.{_≡_, refl, sym, _∙_}
-use mathlib.Core.Bool.{Bool, true, false}
+use mathlib.Core.Bool.{Bool, true, false, cond}
 use mathlib.Core.List.{List}
 use Prim.Native.Nat.{ℕ, _+_, _≤_}
 use native.Mathlib.Omega.{arith}
@@ -9,7 +9,6 @@ use lib.Dec.{leb}
 use lib.ListN.{length, take, drop}
 use lib.Seq.{take-at}
 use Rattle.words.specs.Put.{put}
-use Rattle.transducer.specs.StateSet.{pick}
 use Rattle.transducer.specs.Valid.{validOf}
 use Rattle.transducer.specs.declared.Transducer.{Transducer}
 use Rattle.transducer.proofs.Facts.{valid-exactly}
@@ -52,7 +51,7 @@ module _ {t : Transducer} {before after : List ℕ} {w : Writing} (wrote : Wrote
   unfolding inCase
   not-refused z = go (validOf t) (leb (length (writeOf t)) (length before)) refl refl (sym (wrote .number) ∙ z)
     where
-      go : (x y : Bool) → validOf t ≡ x → leb (length (writeOf t)) (length before) ≡ y → pick x (pick y 0 tooShort) invalid ≡ 0
+      go : (x y : Bool) → validOf t ≡ x → leb (length (writeOf t)) (length before) ≡ y → cond x (cond y 0 tooShort) invalid ≡ 0
           → (validOf t ≡ true) × (length (writeOf t) ≤ length before)
       go true true v room e = (v, leb-true _ _ room)
       go true false v room e = absurd (omega arith)

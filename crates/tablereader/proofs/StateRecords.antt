@@ -1,6 +1,6 @@
 -- The records of states: a turn of their reading, and that what is read is below n, also where a record is refused. Assumes nothing.
 use mathlib.Core.Path.{_≡_, refl, _∙_}
-use mathlib.Core.Bool.{Bool, true, false, _&&_}
+use mathlib.Core.Bool.{Bool, true, false, cond, _&&_}
 use mathlib.Core.List.{List}
 use Prim.Native.Nat.{ℕ, zero, suc, _+_, _-_, _≤_, _<_}
 use native.Mathlib.Nat.{not-suc-le-zero}
@@ -10,7 +10,7 @@ use borrow.Author.Tests.{ltb-true}
 use lib.Dec.{ltb}
 use lib.ListN.{length, getD, set, replicate, length-set}
 use Rattle.transducer.specs.Limits.{mostStates}
-use Rattle.transducer.specs.StateSet.{pick, has, In, noStates, withState}
+use Rattle.transducer.specs.StateSet.{has, In, noStates, withState}
 use Rattle.transducer.specs.declared.StateSet.{StateSet}
 use Rattle.transducer.proofs.Bools.{and-right}
 use Rattle.tablereader.specs.Outcome.{outcomeOf, _▸_}
@@ -66,7 +66,7 @@ with-below : (n v : ℕ) (s : StateSet) → v < n → Below n s → Below n (wit
 unfolding withState has
 with-below n v s h b = go (ltb v mostStates) refl
   where
-    go : (x : Bool) → ltb v mostStates ≡ x → Below n (pick x (record { member = set (s .member) v true }) s)
+    go : (x : Bool) → ltb v mostStates ≡ x → Below n (cond x (record { member = set (s .member) v true }) s)
     go false e = b
     go true e =
         record {

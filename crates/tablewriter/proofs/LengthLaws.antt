@@ -1,6 +1,6 @@
 -- How long the file is. Assumes nothing.
 use mathlib.Core.Path.{_≡_, refl, ap, _∙_}
-use mathlib.Core.Bool.{Bool, true, false}
+use mathlib.Core.Bool.{Bool, true, false, cond}
 use mathlib.Core.List.{List, [], _∷_, _++_, flatMap, append-nil}
 use Prim.Native.Nat.{ℕ, zero, suc, _+_, _*_, _≤_}
 use native.Mathlib.Numerals.{add-one}
@@ -10,7 +10,7 @@ use Rattle.fields.specs.Field.{columns}
 use Rattle.fields.specs.Number.{columnsOf}
 use Rattle.fields.proofs.Columns.{length-columns}
 use Rattle.transducer.specs.Limits.{mostStates, mostOutputs}
-use Rattle.transducer.specs.StateSet.{pick, has, In}
+use Rattle.transducer.specs.StateSet.{has, In}
 use Rattle.transducer.specs.Transition.{at, firsts, writtenBy, bytesOf}
 use Rattle.transducer.specs.Valid.{Valid}
 use Rattle.transducer.specs.declared.OutputCode.{OutputCode}
@@ -37,7 +37,7 @@ one-state : (s : StateSet) (q : ℕ) → length (stateAt s q) ≤ 1
 unfolding stateAt
 one-state s q = go (has s q)
   where
-    go : (b : Bool) → length (pick b (q ∷ []) []) ≤ 1
+    go : (b : Bool) → length (cond b (q ∷ []) []) ≤ 1
     go true = omega arith
     go false = omega arith
 

@@ -1,5 +1,6 @@
 -- The bytes of a table file (document 01, "The file"), record by record: `T`, an `S` for each start state, an `F` for each final state, an `L` for
 -- each transition.
+use mathlib.Core.Bool.{cond}
 use mathlib.Core.List.{List, [], _∷_, _++_, flatMap}
 use Prim.Native.Nat.{ℕ, zero, suc, _+_}
 use lib.ListN.{length}
@@ -7,7 +8,7 @@ use Rattle.fields.specs.Field.{columns}
 use Rattle.fields.specs.Letters.{letterT, letterS, letterF, letterL, recordEnd}
 use Rattle.fields.specs.Number.{columnsOf}
 use Rattle.transducer.specs.Limits.{mostStates}
-use Rattle.transducer.specs.StateSet.{pick, has}
+use Rattle.transducer.specs.StateSet.{has}
 use Rattle.transducer.specs.Transition.{bytesOf, at, firsts, writtenBy}
 use Rattle.transducer.specs.declared.StateSet.{StateSet}
 use Rattle.transducer.specs.declared.Transition.{Transition}
@@ -27,7 +28,7 @@ recordBytes letter numbers = letter ∷ fieldsOf numbers ++ (recordEnd ∷ [])
 
 -- the state q where it is in the set, else nothing
 unfoldable pub stateAt : StateSet → ℕ → List ℕ
-stateAt s q = pick (has s q) (q ∷ []) []
+stateAt s q = cond (has s q) (q ∷ []) []
 
 -- the states of a set below n, rising
 unfoldable pub statesBelow : ℕ → StateSet → List ℕ

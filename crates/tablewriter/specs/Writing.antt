@@ -1,11 +1,11 @@
 -- What `write` answers and leaves.
+use mathlib.Core.Bool.{cond}
 use mathlib.Core.Path.{_≡_}
 use mathlib.Core.List.{List}
 use Prim.Native.Nat.{ℕ}
 use lib.Dec.{leb}
 use lib.ListN.{length}
 use Rattle.words.specs.Put.{put}
-use Rattle.transducer.specs.StateSet.{pick}
 use Rattle.transducer.specs.Valid.{validOf, Shaped}
 use Rattle.transducer.specs.declared.Transducer.{Transducer}
 use Rattle.tablewriter.specs.File.{writeOf}
@@ -34,7 +34,7 @@ lengthOf BufferTooShort = 0
 
 -- the first where t breaks a rule; else the second where the buffer is shorter than the file; else the third
 unfoldable pub inCase : {A : Type 0} → Transducer → List ℕ → A → A → A → A
-inCase t buffer broken short written = pick (validOf t) (pick (leb (length (writeOf t)) (length buffer)) written short) broken
+inCase t buffer broken short written = cond (validOf t) (cond (leb (length (writeOf t)) (length buffer)) written short) broken
 
 -- `write` refuses with 8, then with 7, and then leaves the buffer as it was; else the file stands at the buffer's front, and its byte count is
 -- answered. The arrays of t have their lengths.

@@ -1,5 +1,6 @@
 -- Exchanging two transitions gives an alike transducer. The idea: putting v in the place of transition l changes how often a transition stands there
 -- only by v and by what stood there before. Assumes nothing.
+use mathlib.Core.Bool.{cond}
 use mathlib.Core.Path.{_≡_, refl, sym, ap, _∙_}
 use Prim.Native.Nat.{ℕ, zero, suc, _+_, _<_, _≤_}
 use native.Mathlib.Decide.{ℕ-discrete}
@@ -8,7 +9,6 @@ use native.Mathlib.Omega.{arith}
 use mathlib.Core.Logic.{_≢_, inl, inr}
 use lib.ListN.{length, length-set}
 use lib.Seq.{getD-set-same, getD-set-other}
-use Rattle.transducer.specs.StateSet.{pick}
 use Rattle.transducer.specs.Transition.{at, outside}
 use Rattle.transducer.specs.Alike.{sameTransition, timesBelow, Alike, replaced, exchanged}
 use Rattle.transducer.specs.declared.Transition.{Transition}
@@ -16,7 +16,7 @@ use Rattle.transducer.specs.declared.Transducer.{Transducer}
 
 -- 1 where w is v, else 0
 abbrev one : Transition → Transition → ℕ
-one v w = pick (sameTransition v w) 1 0
+one v w = cond (sameTransition v w) 1 0
 
 module _ (t : Transducer) (l : ℕ) (w : Transition) where
   -- the place itself holds the new transition, the others what they held

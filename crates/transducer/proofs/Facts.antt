@@ -1,6 +1,6 @@
 -- What the test of a transducer says, as facts, and back. Assumes nothing.
 use mathlib.Core.Path.{_≡_, refl, sym, _∙_}
-use mathlib.Core.Bool.{Bool, true, false, _&&_, _||_, not}
+use mathlib.Core.Bool.{Bool, true, false, cond, _&&_, _||_, not}
 use mathlib.Core.Logic.{⊎-elim, _↔_}
 use Prim.Native.Nat.{ℕ, _≤_, _<_}
 use native.Mathlib.Omega.{arith}
@@ -8,7 +8,7 @@ use borrow.Author.Tests.{ltb-true, leb-true, eqb-true, lt-ltb, le-ltb, le-leb, e
 use lib.Dec.{eqb, leb, ltb}
 use lib.ListN.{getD}
 use Rattle.transducer.specs.Limits.{mostStates, mostTransitions, mostOutputs, mostCode}
-use Rattle.transducer.specs.StateSet.{pick, has, In}
+use Rattle.transducer.specs.StateSet.{has, In}
 use Rattle.transducer.specs.Transition.{at}
 use Rattle.transducer.specs.Valid.{codeAt, Used, Clear, Valid, allBelow, codeOf, codesOf, usedOf, clearOf, placeOf, setOf, validOf}
 use Rattle.transducer.specs.declared.Transition.{Transition}
@@ -117,8 +117,8 @@ module _ (v : Transition) where
 place-facts : (t : Transducer) (l : ℕ) → placeOf t l ≡ true → (l < t .count → Used (t .states) (at t l)) × (t .count ≤ l → Clear (at t l))
 unfolding placeOf
 place-facts t l e =
-    let fields = and-left (pick (ltb l (t .count)) (usedOf (t .states) (at t l)) (clearOf (at t l))) (codesOf (at t l)) e in
-    let codes = and-right (pick (ltb l (t .count)) (usedOf (t .states) (at t l)) (clearOf (at t l))) (codesOf (at t l)) e in (
+    let fields = and-left (cond (ltb l (t .count)) (usedOf (t .states) (at t l)) (clearOf (at t l))) (codesOf (at t l)) e in
+    let codes = and-right (cond (ltb l (t .count)) (usedOf (t .states) (at t l)) (clearOf (at t l))) (codesOf (at t l)) e in (
       λ h. used-facts (t .states) (at t l) (rw (lt-ltb l (t .count) h) at fields) codes,
       λ h. clear-facts (at t l) (rw (le-ltb l (t .count) h) at fields) codes,
     )

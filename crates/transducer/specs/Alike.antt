@@ -1,11 +1,11 @@
 -- Equality up to the order of transitions (document 01: two tables are alike).
 use mathlib.Core.Path.{_≡_}
-use mathlib.Core.Bool.{Bool, true, false, _&&_}
+use mathlib.Core.Bool.{Bool, true, false, cond, _&&_}
 use mathlib.Core.List.{List, [], _∷_}
 use Prim.Native.Nat.{ℕ, zero, suc, _+_}
 use lib.Dec.{eqb}
 use lib.ListN.{set}
-use Rattle.transducer.specs.StateSet.{pick, has}
+use Rattle.transducer.specs.StateSet.{has}
 use Rattle.transducer.specs.Transition.{at}
 use Rattle.transducer.specs.declared.OutputCode.{OutputCode}
 use Rattle.transducer.specs.declared.Transition.{Transition}
@@ -27,7 +27,7 @@ sameTransition v w =
 -- how many of the first n transitions of t are v
 unfoldable pub timesBelow : Transducer → Transition → ℕ → ℕ
 timesBelow t v zero = 0
-timesBelow t v (suc n) = timesBelow t v n + pick (sameTransition v (at t n)) 1 0
+timesBelow t v (suc n) = timesBelow t v n + cond (sameTransition v (at t n)) 1 0
 
 -- how many times v stands in t
 abbrev pub times : Transducer → Transition → ℕ

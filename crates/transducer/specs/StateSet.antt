@@ -1,16 +1,11 @@
 -- Sets of states: a state can be tested, and a set handed back with one state added.
 use mathlib.Core.Path.{_≡_}
-use mathlib.Core.Bool.{Bool, true, false, _&&_}
+use mathlib.Core.Bool.{Bool, true, false, cond, _&&_}
 use Prim.Native.Nat.{ℕ}
 use lib.Dec.{ltb}
 use lib.ListN.{getD, set, replicate}
 use Rattle.transducer.specs.Limits.{mostStates}
 use Rattle.transducer.specs.declared.StateSet.{StateSet}
-
--- the first where the test is true, else the second
-abbrev pub pick {ℓ} : {A : Type ℓ} → Bool → A → A → A
-pick true a b = a
-pick false a b = b
 
 -- whether q is in the set; a state over 31 is in no set
 unfoldable pub has : StateSet → ℕ → Bool
@@ -22,7 +17,7 @@ In s q = has s q ≡ true
 
 -- the set with q added; adding a state over 31 gives the same set
 unfoldable pub withState : StateSet → ℕ → StateSet
-withState s q = pick (ltb q mostStates) (record { member = set (s .member) q true }) s
+withState s q = cond (ltb q mostStates) (record { member = set (s .member) q true }) s
 
 -- the set with no state
 abbrev pub noStates : StateSet

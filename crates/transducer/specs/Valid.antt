@@ -1,11 +1,11 @@
 -- The rules of a transducer's value (document 01, "Codes and tables"), as facts and as a test that computes.
 use mathlib.Core.Path.{_≡_}
-use mathlib.Core.Bool.{Bool, true, _&&_, _||_, not}
+use mathlib.Core.Bool.{Bool, true, cond, _&&_, _||_, not}
 use Prim.Native.Nat.{ℕ, zero, suc, _≤_, _<_}
 use lib.Dec.{eqb, leb, ltb}
 use lib.ListN.{length}
 use Rattle.transducer.specs.Limits.{mostStates, mostTransitions, mostOutputs, mostCode}
-use Rattle.transducer.specs.StateSet.{pick, has, In}
+use Rattle.transducer.specs.StateSet.{has, In}
 use Rattle.transducer.specs.Transition.{at, outputAt}
 use Rattle.transducer.specs.declared.Transition.{Transition}
 use Rattle.transducer.specs.declared.StateSet.{StateSet}
@@ -55,7 +55,7 @@ allBelow (suc n) f = allBelow n f && f n
 
 -- place j of an output: below the count a code of 1 to 250, from there on 0
 unfoldable pub codeOf : Transition → ℕ → Bool
-codeOf v j = pick (ltb j (v .count)) (leb 1 (codeAt v j) && leb (codeAt v j) mostCode) (eqb (codeAt v j) 0)
+codeOf v j = cond (ltb j (v .count)) (leb 1 (codeAt v j) && leb (codeAt v j) mostCode) (eqb (codeAt v j) 0)
 
 -- every place of it
 unfoldable pub codesOf : Transition → Bool
@@ -71,7 +71,7 @@ clearOf v = eqb (v .from) 0 && eqb (v .to) 0 && eqb (v .input .0) 0 && eqb (v .c
 
 -- transition l: below the count one in use, from there on one that is not
 unfoldable pub placeOf : Transducer → ℕ → Bool
-placeOf t l = pick (ltb l (t .count)) (usedOf (t .states) (at t l)) (clearOf (at t l)) && codesOf (at t l)
+placeOf t l = cond (ltb l (t .count)) (usedOf (t .states) (at t l)) (clearOf (at t l)) && codesOf (at t l)
 
 -- no state from n on is in the set
 unfoldable pub setOf : ℕ → StateSet → Bool

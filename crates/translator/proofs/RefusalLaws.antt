@@ -10,7 +10,7 @@ use Rattle.transducer.specs.Valid.{validOf}
 use Rattle.transducer.specs.declared.Transducer.{Transducer}
 use Rattle.wordsearch.specs.Limits.{mostWord}
 use Rattle.translator.specs.Numbers.{numberOf}
-use Rattle.translator.specs.Words.{codesOf, refusalOf}
+use Rattle.translator.specs.Words.{allCodes, refusalOf}
 use Rattle.translator.specs.Translated.{Outcome, Translated}
 use Rattle.translator.specs.declared.Translation.{Translation}
 
@@ -23,11 +23,11 @@ module _ (t : Transducer) (input : List ℕ) where
   unfolding refusalOf
   refusal-long v n = rw (v, lt-leb (length input) mostWord n)
 
-  pub refusal-code : validOf t ≡ true → length input ≤ mostWord → codesOf input ≡ false → refusalOf t input ≡ 10
+  pub refusal-code : validOf t ≡ true → length input ≤ mostWord → allCodes input ≡ false → refusalOf t input ≡ 10
   unfolding refusalOf
   refusal-code v n k = rw (v, le-leb (length input) mostWord n, k)
 
-  pub refusal-none : validOf t ≡ true → length input ≤ mostWord → codesOf input ≡ true → refusalOf t input ≡ 0
+  pub refusal-none : validOf t ≡ true → length input ≤ mostWord → allCodes input ≡ true → refusalOf t input ≡ 0
   unfolding refusalOf
   refusal-none v n k = rw (v, le-leb (length input) mostWord n, k)
 

@@ -1,7 +1,7 @@
 -- What the translator's contract says of any answer that meets it: on a functional transducer it determines the answer and the buffer, with 65,528
 -- places 7 is never given, and transducers that are alike are answered alike. Assumes nothing.
 use mathlib.Core.Path.{_≡_, refl, sym, ap, _∙_}
-use mathlib.Core.Bool.{Bool, true, false}
+use mathlib.Core.Bool.{Bool, true, false, cond}
 use mathlib.Core.List.{List, [], _++_}
 use mathlib.Core.Logic.{_≢_, _↔_}
 use Prim.Native.Nat.{ℕ, _≤_, _<_}
@@ -11,7 +11,6 @@ use borrow.Author.Tests.{le-leb}
 use lib.Dec.{eqb, leb}
 use lib.ListN.{length, drop, getD}
 use Rattle.transducer.specs.Limits.{mostCode}
-use Rattle.transducer.specs.StateSet.{pick}
 use Rattle.transducer.specs.Transition.{OutputWord, wordOf, bytesOf}
 use Rattle.transducer.specs.Valid.{validOf}
 use Rattle.transducer.specs.Paths.{Relates, Functional}
@@ -22,7 +21,7 @@ use Rattle.transducer.proofs.AlikeLaws.{alike-equivalent}
 use Rattle.transducer.proofs.SizeLaws.{length-bytes}
 use Rattle.wordsearch.specs.Limits.{mostWord, mostWritten}
 use Rattle.translator.specs.Numbers.{numberOf, lengthOf}
-use Rattle.translator.specs.Words.{codeAt, codesOf, refusalOf}
+use Rattle.translator.specs.Words.{codeAt, allCodes, refusalOf}
 use Rattle.translator.specs.Translated.{Outcome, Translated, Same}
 use Rattle.translator.specs.declared.Translation.{Translation}
 use Rattle.translator.specs.declared.Translation.the-variants.{Written, Invalid, WordTooLong, NoInputCode, Unread, BufferTooShort}
@@ -33,8 +32,8 @@ use Rattle.translator.proofs.RefusalLaws.{refusal-none}
 -- the answer with this number and this length
 abbrev answerOf : ℕ → ℕ → Translation
 answerOf n k =
-    pick (eqb n 0) (Written k)
-    (pick (eqb n 7) BufferTooShort (pick (eqb n 8) Invalid (pick (eqb n 9) WordTooLong (pick (eqb n 10) NoInputCode Unread))))
+    cond (eqb n 0) (Written k)
+    (cond (eqb n 7) BufferTooShort (cond (eqb n 8) Invalid (cond (eqb n 9) WordTooLong (cond (eqb n 10) NoInputCode Unread))))
 
 answer-is : (r : Translation) → answerOf (numberOf r) (lengthOf r) ≡ r
 answer-is (Written n) = refl
@@ -61,9 +60,9 @@ refused-length Unread h = refl
 -- the refusals before the search are not 7
 refusal-no-seven : (t : Transducer) (input : List ℕ) → refusalOf t input ≢ 7
 unfolding refusalOf
-refusal-no-seven t input = go (validOf t) (leb (length input) mostWord) (codesOf input)
+refusal-no-seven t input = go (validOf t) (leb (length input) mostWord) (allCodes input)
   where
-    go : (a b c : Bool) → _≢_ {A = ℕ} (pick a (pick b (pick c 0 10) 9) 8) 7
+    go : (a b c : Bool) → _≢_ {A = ℕ} (cond a (cond b (cond c 0 10) 9) 8) 7
     go false b c e = omega arith
     go true false c e = omega arith
     go true true false e = omega arith
@@ -198,8 +197,8 @@ translated-determined f h h′ =
 abbrev pub InRange : List ℕ → Type 0
 InRange input = (i : ℕ) → i < length input → (1 ≤ getD input i 0) × (getD input i 0 ≤ mostCode)
 
-pub codes-in-range : (input : List ℕ) → InRange input → codesOf input ≡ true
-unfolding codesOf
+pub codes-in-range : (input : List ℕ) → InRange input → allCodes input ≡ true
+unfolding allCodes
 codes-in-range input h =
     all-of (length input) (codeAt input)
     (λ i l. and-both (le-leb 1 (getD input i 0) (h i l .0)) (le-leb (getD input i 0) mostCode (h i l .1)))

@@ -11,7 +11,7 @@ ghost use Rattle.transducer.specs.Transition.{writtenBy, bytesOf};
 ghost use Rattle.transducer.specs.Valid.{Valid};
 ghost use Rattle.wordsearch.specs.Limits.{mostNodes};
 ghost use Rattle.wordsearch.specs.Answers.{Traced};
-ghost use Rattle.translator.specs.Words.{codesOf};
+ghost use Rattle.translator.specs.Words.{allCodes};
 ghost use Rattle.translator.specs.Translated.{Translated};
 use transducer::Transducer;
 use transducer::Transition;
@@ -56,7 +56,7 @@ pub fn translate(t: Transducer, input: &[u8], out: &mut [u8]) -> Translation
 
 // Whether every byte of the word is an input code.
 fn codes_ok(input: &[u8]) -> bool
-    ensures { λ r. ⌜ r ≡ codesOf (now (input .entry)) ⌝ }
+    ensures { λ r. ⌜ r ≡ allCodes (now (input .entry)) ⌝ }
 {
     let mut ok = true;
     let mut i = 0;

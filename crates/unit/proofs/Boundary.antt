@@ -18,17 +18,17 @@ use Rattle.engine.specs.Engine.{Taken, tableOf}
 use Rattle.engine.specs.declared.Judgement.{Judgement}
 use Rattle.engine.specs.declared.FileTranslation.{FileTranslation}
 use Rattle.engine.proofs.EngineLaws.{judged-determined, file-translated-determined}
-use Rattle.unit.specs.Answers.{answerTooShort, codeOf, flagOf, numbersOf, translateAnswer}
+use Rattle.unit.specs.Answers.{answerTooShort, refusalCode, flagOf, numbersOf, translateAnswer}
 use Rattle.unit.specs.Calls.{VerdictGiven, translateCode, TranslationGiven, Flagged, StatesGiven, PairsGiven, DifferenceGiven, FileGiven}
 use Rattle.unit.specs.Laws.{SameVerdict, Boundary}
 use Rattle.unit.proofs.Codes.{this-one, no-room, taken-code, code-taken}
 
-number-told : (number at : ℕ) → number < 65536 → codeOf number at % 65536 ≡ number
-unfolding codeOf
+number-told : (number at : ℕ) → number < 65536 → refusalCode number at % 65536 ≡ number
+unfolding refusalCode
 number-told number at h = omega arith
 
-record-told : (number at : ℕ) → number < 65536 → codeOf number at / 65536 ≡ at
-unfolding codeOf
+record-told : (number at : ℕ) → number < 65536 → refusalCode number at / 65536 ≡ at
+unfolding refusalCode
 record-told number at h = omega arith
 
 -- what follows from 0 and from a refusal follows

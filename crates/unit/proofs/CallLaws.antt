@@ -13,7 +13,6 @@ use Rattle.words.specs.Difference.{sharedOf, differenceOf}
 use Rattle.words.specs.Put.{put}
 use Rattle.words.specs.declared.Comparison.{Comparison}
 use Rattle.transducer.specs.Limits.{mostStates}
-use Rattle.transducer.specs.StateSet.{pick}
 use Rattle.transducer.specs.Useful.{UsefulState, UsefulPair}
 use Rattle.transducer.specs.Valid.{validOf}
 use Rattle.transducer.specs.declared.Transducer.{Transducer}
@@ -48,7 +47,7 @@ use Rattle.engine.specs.Engine.{numberOf, Taken, tableOf, judgementOf, Judged, 
 use Rattle.engine.specs.declared.Judgement.{Judgement}
 use Rattle.engine.specs.declared.FileTranslation.{FileTranslation}
 use Rattle.engine.proofs.EngineLaws.{table-valid}
-use Rattle.unit.specs.Answers.{answerTooShort, codeOf, fileCode, roomFault, flagOf, kindOf, numbersOf}
+use Rattle.unit.specs.Answers.{answerTooShort, refusalCode, fileCode, roomFault, flagOf, kindOf, numbersOf}
 use Rattle.unit.specs.Answers.{verdictAnswer, translateAnswer, pairsAnswer, differenceAnswer, writeAnswer}
 use Rattle.unit.specs.Calls.{verdictCode, VerdictGiven, translateCode, TranslationGiven, Flagged, statesCode, StatesGiven, pairsCode, PairsGiven}
 use Rattle.unit.specs.Calls.{DifferenceGiven, writeCode, FileGiven}
@@ -57,20 +56,20 @@ use Rattle.unit.proofs.Codes.{this-one, none-then, no-more, room, no-ro
 -- ---- the verdict
 
 -- the code of the functionality test: that of the buffers, since what is read keeps the rules
-tested-code : (f : List ℕ) (b : Buffers) → refusalOf (tableOf f) b ≡ firstOf (pick (fullOf b) 0 tooShort ∷ [])
+tested-code : (f : List ℕ) (b : Buffers) → refusalOf (tableOf f) b ≡ firstOf (cond (fullOf b) 0 tooShort ∷ [])
 unfolding refusalOf firstOf
 tested-code f b = rw (table-valid f) (go (fullOf b))
   where
-    go : (x : Bool) → pick x 0 7 ≡ cond (eqb (pick x 0 tooShort) 0) 0 (pick x 0 tooShort)
+    go : (x : Bool) → cond x 0 7 ≡ cond (eqb (cond x 0 tooShort) 0) 0 (cond x 0 tooShort)
     go true = refl
     go false = refl
 
 -- the code of a judgement: of the file, then of the buffers
 judged-code : {f : List ℕ} {b b′ : Buffers} {j : Judgement} → Judged f b b′ j
-    → codeOf (j .number) (j .«record») ≡ firstOf (fileCode f ∷ pick (fullOf b) 0 tooShort ∷ [])
+    → refusalCode (j .number) (j .«record») ≡ firstOf (fileCode f ∷ cond (fullOf b) 0 tooShort ∷ [])
 judged-code {f} {b} {b′} {j} h = go (ℕ-discrete (numberOf f) 0)
   where
-    go : Dec (numberOf f ≡ 0) → codeOf (j .number) (j .«record») ≡ firstOf (fileCode f ∷ pick (fullOf b) 0 tooShort ∷ [])
+    go : Dec (numberOf f ≡ 0) → refusalCode (j .number) (j .«record») ≡ firstOf (fileCode f ∷ cond (fullOf b) 0 tooShort ∷ [])
     go (yes t) =
         let on = h .taken t in
         none-then _ (taken-code f t)
@@ -106,7 +105,7 @@ module _ {f a : List ℕ} {b : Buffers} where
       }
 
   module _ {b′ : Buffers} {j : Judgement} (long : verdictAnswer ≤ length a) (h : Judged f b b′ j) where
-    pub verdict-refused : {r : ℕ} → j .number ≢ 0 → r ≡ codeOf (j .number) (j .«record») → VerdictGiven f b b′ a a r
+    pub verdict-refused : {r : ℕ} → j .number ≢ 0 → r ≡ refusalCode (j .number) (j .«record») → VerdictGiven f b b′ a a r
     unfolding verdictCode
     verdict-refused n e =
         record {
@@ -156,7 +155,7 @@ module _ {f input out a : List ℕ} where
       }
 
   module _ {out′ : List ℕ} {q : FileTranslation} (long : translateAnswer ≤ length a) (h : FileTranslated f input out out′ q) where
-    pub translation-refused : {r : ℕ} → q .number ≢ 0 → r ≡ codeOf (q .number) (q .«record») → TranslationGiven f input out out′ a a r
+    pub translation-refused : {r : ℕ} → q .number ≢ 0 → r ≡ refusalCode (q .number) (q .«record») → TranslationGiven f input out out′ a a r
     unfolding translateCode
     translation-refused {r} n e =
         let refused : r ≢ 0 = λ z. n (code-zero _ _ (sym e ∙ z)) in
@@ -291,7 +290,7 @@ record WroteAgain (f out out′ : List ℕ) (w : Writing) : Type 0 where
 
 -- the cases of a writing: what is read keeps the rules, and is written as the file
 in-case : (f out : List ℕ) {A : Type 0} (broken short written : A) → Taken f
-    → inCase (tableOf f) out broken short written ≡ pick (leb (length f) (length out)) written short
+    → inCase (tableOf f) out broken short written ≡ cond (leb (length f) (length out)) written short
 unfolding inCase
 in-case f out broken short written t = rw (table-valid f, round-trips .written-read f (taken-number (readOf f .outcome) t))
 
@@ -305,10 +304,10 @@ wrote-again f {out} {out′} {w} t h = go (le-or-lt (length f) (length out))
     go (inr few) =
         let less = lt-leb (length f) (length out) few in
         let whole = put out 0 (writeOf (tableOf f)) in
-        let number : wrote.numberOf w ≡ tooShort = h .number ∙ in-case f out wrote.invalid tooShort 0 t ∙ ap (λ x. pick x 0 tooShort) less in
+        let number : wrote.numberOf w ≡ tooShort = h .number ∙ in-case f out wrote.invalid tooShort 0 t ∙ ap (λ x. cond x 0 tooShort) less in
         record {
           number = number ∙ no-room _ _ _ few;
-          short = λ _. h .buffer ∙ in-case f out out out whole t ∙ ap (λ x. pick x whole out) less;
+          short = λ _. h .buffer ∙ in-case f out out out whole t ∙ ap (λ x. cond x whole out) less;
           written = λ z. absurd (omega (arith, number));
         }
 

@@ -12,7 +12,7 @@ use Rattle.tablereader.specs.Record.{firstOf}
 use Rattle.tablereader.specs.declared.Reading.{Reading}
 use Rattle.tablereader.proofs.Outcomes.{taken-number}
 use Rattle.engine.specs.Engine.{Taken}
-use Rattle.unit.specs.Answers.{codeOf, fileCode, roomFault}
+use Rattle.unit.specs.Answers.{refusalCode, fileCode, roomFault}
 
 -- ---- the first refusal
 
@@ -44,13 +44,13 @@ no-room n list fault h = rw (lt-ltb (length list) n h)
 -- ---- the file
 
 -- a refusal without a record is its number
-pub no-record : (n : ℕ) → codeOf n 0 ≡ n
-unfolding codeOf
+pub no-record : (n : ℕ) → refusalCode n 0 ≡ n
+unfolding refusalCode
 no-record n = omega arith
 
 -- a code is 0 only where its number is
-pub code-zero : (n at : ℕ) → codeOf n at ≡ 0 → n ≡ 0
-unfolding codeOf
+pub code-zero : (n at : ℕ) → refusalCode n at ≡ 0 → n ≡ 0
+unfolding refusalCode
 code-zero n at z = omega arith
 
 -- the code of a file that is taken is 0
@@ -63,5 +63,5 @@ code-taken f z = code-zero _ _ z
 
 -- the code of what the reader returns
 pub code-read : (f : List ℕ) {reading : Reading} {r : ℕ} → reading ≡ readOf f
-    → r ≡ codeOf (outcome.numberOf (reading .outcome)) (outcome.recordOf (reading .outcome)) → r ≡ fileCode f
-code-read f reads e = e ∙ ap (λ (x : Reading). codeOf (outcome.numberOf (x .outcome)) (outcome.recordOf (x .outcome))) reads
+    → r ≡ refusalCode (outcome.numberOf (reading .outcome)) (outcome.recordOf (reading .outcome)) → r ≡ fileCode f
+code-read f reads e = e ∙ ap (λ (x : Reading). refusalCode (outcome.numberOf (x .outcome)) (outcome.recordOf (x .outcome))) reads

@@ -1,12 +1,11 @@
 -- The numbers that an exported function returns, and those that it puts into lists.
-use mathlib.Core.Bool.{Bool, true, false}
+use mathlib.Core.Bool.{Bool, true, false, cond}
 use mathlib.Core.List.{List, [], _∷_}
 use Prim.Native.Nat.{ℕ, _+_, _*_}
 use lib.Dec.{ltb}
 use lib.ListN.{length}
 use Rattle.words.specs.declared.Comparison.{Comparison}
 use Rattle.words.specs.declared.Comparison.the-variants.{Level, FirstAhead, SecondAhead, Clash}
-use Rattle.transducer.specs.StateSet.{pick}
 use Rattle.engine.specs.Engine.{numberOf, recordOf}
 use Rattle.engine.specs.declared.Judgement.{Judgement}
 
@@ -17,16 +16,16 @@ abbrev pub answerTooShort : ℕ
 answerTooShort = 100
 
 -- a refusal as one number: its own number in the low 16 bits, the record's number above; 0 where nothing is refused
-unfoldable pub codeOf : ℕ → ℕ → ℕ
-codeOf number at = number + 65536 * at
+unfoldable pub refusalCode : ℕ → ℕ → ℕ
+refusalCode number at = number + 65536 * at
 
 -- the refusal of a file, 0 where it is taken
 abbrev pub fileCode : List ℕ → ℕ
-fileCode f = codeOf (numberOf f) (recordOf f)
+fileCode f = refusalCode (numberOf f) (recordOf f)
 
 -- the refusal of a list that has fewer than n places, 0 where it has them
 unfoldable pub roomFault : ℕ → List ℕ → ℕ → ℕ
-roomFault n list fault = pick (ltb (length list) n) fault 0
+roomFault n list fault = cond (ltb (length list) n) fault 0
 
 -- ---- how many numbers an answer list takes
 

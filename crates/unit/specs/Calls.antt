@@ -1,7 +1,7 @@
 -- What each exported function returns and leaves. f, x, y, input and the buffers b are what is lent, a is the answer list; a name with a prime is
 -- what that list holds afterwards.
 use mathlib.Core.Path.{_≡_}
-use mathlib.Core.Bool.{Bool, true, false}
+use mathlib.Core.Bool.{Bool, true, false, cond}
 use mathlib.Core.List.{List, [], _∷_, map}
 use mathlib.Core.Logic.{_≢_, _↔_}
 use Prim.Native.Nat.{ℕ, _≤_, _<_}
@@ -9,7 +9,6 @@ use lib.ListN.{length, getD}
 use Rattle.words.specs.Difference.{sharedOf, differenceOf}
 use Rattle.words.specs.Put.{put}
 use Rattle.transducer.specs.Limits.{mostStates}
-use Rattle.transducer.specs.StateSet.{pick}
 use Rattle.transducer.specs.Useful.{UsefulState, UsefulPair}
 use Rattle.tablereader.specs.Record.{firstOf}
 use Rattle.tablewriter.specs.Writing.{tooShort}
@@ -20,7 +19,7 @@ use Rattle.functionality.specs.Decided.{fullOf, UsefulCount}
 use Rattle.engine.specs.Engine.{tableOf, Judged, FileTranslated}
 use Rattle.engine.specs.declared.Judgement.{Judgement}
 use Rattle.engine.specs.declared.FileTranslation.{FileTranslation}
-use Rattle.unit.specs.Answers.{answerTooShort, codeOf, fileCode, roomFault, flagOf, kindOf, numbersOf}
+use Rattle.unit.specs.Answers.{answerTooShort, refusalCode, fileCode, roomFault, flagOf, kindOf, numbersOf}
 use Rattle.unit.specs.Answers.{verdictAnswer, translateAnswer, pairsAnswer, differenceAnswer, writeAnswer}
 
 -- Each record says the same three things: what is returned, that a refusal (not 0) changes nothing that is lent, and what is done where 0 is
@@ -30,7 +29,7 @@ use Rattle.unit.specs.Answers.{verdictAnswer, translateAnswer, pairsAnsw
 
 -- refused are, in this order, an answer list that is too short, the file, a buffer below its size
 unfoldable pub verdictCode : List ℕ → Buffers → List ℕ → ℕ
-verdictCode f b a = firstOf (roomFault verdictAnswer a answerTooShort ∷ fileCode f ∷ pick (fullOf b) 0 tooShort ∷ [])
+verdictCode f b a = firstOf (roomFault verdictAnswer a answerTooShort ∷ fileCode f ∷ cond (fullOf b) 0 tooShort ∷ [])
 
 -- the file is judged, and the seven numbers of the judgement stand at the front of the answer list
 pub record JudgementIn (f : List ℕ) (b b′ : Buffers) (a a′ : List ℕ) : Type 0 where
@@ -48,7 +47,7 @@ pub record VerdictGiven (f : List ℕ) (b b′ : Buffers) (a a′ : List ℕ) (r
 
 -- refused are, in this order, an answer list that is too short, what the translation by the file refuses
 unfoldable pub translateCode : FileTranslation → List ℕ → ℕ
-translateCode q a = firstOf (roomFault translateAnswer a answerTooShort ∷ codeOf (q .number) (q .«record») ∷ [])
+translateCode q a = firstOf (roomFault translateAnswer a answerTooShort ∷ refusalCode (q .number) (q .«record») ∷ [])
 
 -- what `yotselina_translate` returns and leaves: the length of the output stands at the front of the answer list
 pub record TranslationGiven (f input out out′ a a′ : List ℕ) (r : ℕ) : Type 0 where

@@ -8,7 +8,7 @@ use lib.ListN.{getD, take}
 use Rattle.transducer.specs.Paths.{Functional}
 use Rattle.witness.specs.Showing.{Buffers}
 use Rattle.engine.specs.Engine.{Taken, tableOf}
-use Rattle.unit.specs.Answers.{codeOf, fileCode}
+use Rattle.unit.specs.Answers.{refusalCode, fileCode}
 use Rattle.unit.specs.Calls.{VerdictGiven, TranslationGiven, StatesGiven, PairsGiven, DifferenceGiven, FileGiven}
 
 -- two verdicts are the same in all that document 01 settles
@@ -22,8 +22,8 @@ pub record SameVerdict (b₁ b₂ : Buffers) (a₁ a₂ : List ℕ) (r₁ r₂ :
 -- the laws of the exported functions
 pub record Boundary : Type 0 where
   -- the low 16 bits of a refusal are its number, the others the record's
-  pub number-told : (number at : ℕ) → number < 65536 → codeOf number at % 65536 ≡ number
-  pub record-told : (number at : ℕ) → number < 65536 → codeOf number at / 65536 ≡ at
+  pub number-told : (number at : ℕ) → number < 65536 → refusalCode number at % 65536 ≡ number
+  pub record-told : (number at : ℕ) → number < 65536 → refusalCode number at / 65536 ≡ at
   -- `yotselina_check` returns 0 exactly where the file is taken
   pub taken-exactly : (f : List ℕ) → (fileCode f ≡ 0) ↔ Taken f
   pub verdict : {f a a₁ a₂ : List ℕ} {b b₁ b₂ : Buffers} {r₁ r₂ : ℕ} → VerdictGiven f b b₁ a a₁ r₁ → VerdictGiven f b b₂ a a₂ r₂

@@ -6,7 +6,7 @@ ghost use lib.ListN.{length};
 ghost use Rattle.words.specs.Put.{put};
 ghost use Rattle.tablereader.specs.Outcome.{numberOf, recordOf};
 ghost use Rattle.tablewriter.specs.Writing as wrote;
-ghost use Rattle.unit.specs.Answers.{codeOf, verdictAnswer, flagOf, kindOf, numbersOf};
+ghost use Rattle.unit.specs.Answers.{refusalCode, verdictAnswer, flagOf, kindOf, numbersOf};
 use engine::Judgement;
 use tablereader::Outcome;
 use tablewriter::Writing;
@@ -32,14 +32,14 @@ pub const INVALID: u32 = 8;
 
 // A refusal as one number: its own number in the low 16 bits, the record's number above.
 pub fn refusal(number: u16, at: u16) -> u32
-    ensures { λ r. ⌜ r ≡ codeOf number at ⌝ }
+    ensures { λ r. ⌜ r ≡ refusalCode number at ⌝ }
 {
     number as u32 + 65536 * at as u32
 }
 
 // The refusal of a file, 0 where it is taken.
 pub fn of_file(reader: Outcome) -> u32
-    ensures { λ r. ⌜ r ≡ codeOf (numberOf reader) (recordOf reader) ⌝ }
+    ensures { λ r. ⌜ r ≡ refusalCode (numberOf reader) (recordOf reader) ⌝ }
 {
     refusal(reader.number() as u16, engine::record_number(reader))
 }

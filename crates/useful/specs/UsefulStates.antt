@@ -1,12 +1,12 @@
 -- What `useful_states` answers, and what its parts do.
 use mathlib.Core.Path.{_≡_}
-use mathlib.Core.Bool.{true, false}
+use mathlib.Core.Bool.{true, false, cond}
 use mathlib.Core.List.{List}
 use mathlib.Core.Logic.{_↔_}
 use Prim.Native.Nat.{ℕ, _<_}
 use lib.ListN.{length, getD}
 use Rattle.transducer.specs.Limits.{mostStates}
-use Rattle.transducer.specs.StateSet.{pick, In, noStates}
+use Rattle.transducer.specs.StateSet.{In, noStates}
 use Rattle.transducer.specs.Valid.{validOf}
 use Rattle.transducer.specs.Paths.{Path}
 use Rattle.transducer.specs.Useful.{UsefulState}
@@ -24,7 +24,7 @@ numberOf Invalid = 8
 
 -- refusal 8 with the empty set exactly where the value breaks a rule; else a state is in the set exactly when it is useful
 pub record UsefulStatesOf (t : Transducer) (r : UsefulStates) : Type 0 where
-  pub number : numberOf (r .outcome) ≡ pick (validOf t) 0 8
+  pub number : numberOf (r .outcome) ≡ cond (validOf t) 0 8
   pub refused : validOf t ≡ false → r .states ≡ noStates
   pub members : validOf t ≡ true → (q : ℕ) → In (r .states) q ↔ UsefulState t q
   pub long : length (r .states .member) ≡ mostStates

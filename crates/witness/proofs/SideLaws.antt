@@ -1,6 +1,6 @@
 -- Laws of the sides of a walk that is given by the labels of its steps, and of the loop that writes one of them. Assumes nothing.
 use mathlib.Core.Path.{_≡_, refl, _∙_}
-use mathlib.Core.Bool.{Bool, true, false}
+use mathlib.Core.Bool.{Bool, true, false, cond}
 use mathlib.Core.List.{List, [], _∷_, _++_}
 use mathlib.Core.Logic.{_≢_}
 use Prim.Native.Nat.{ℕ, suc, _+_, _/_, _%_, _≤_, _<_}
@@ -10,7 +10,6 @@ use borrow.Author.Tests.{eq-eqb, ne-eqb, eqb-true}
 use lib.Dec.{eqb}
 use lib.ListN.{length, getD, drop, set, length-set, length-map, drop-of-length-le}
 use lib.Seq.{sets, sets-eq, drop-cons}
-use Rattle.transducer.specs.StateSet.{pick}
 use Rattle.transducer.specs.Walks.{both, left, right, leftIn, rightIn}
 use Rattle.transducer.proofs.SizeLaws.{length-sides}
 use Rattle.pairsearch.specs.Numbers.{noTransition, sides, labelOf, stepOf}
@@ -20,14 +19,14 @@ use Rattle.witness.specs.Sides.{Labels, takenOf, sideOf, Front}
 
 -- what a label takes on each side
 step-takes : (k : ℕ) → k < labelOf noTransition noTransition
-    → (leftIn (stepOf k) ≡ pick (eqb (k / sides) noTransition) [] (k / sides ∷ []))
-    × (rightIn (stepOf k) ≡ pick (eqb (k % sides) noTransition) [] (k % sides ∷ []))
+    → (leftIn (stepOf k) ≡ cond (eqb (k / sides) noTransition) [] (k / sides ∷ []))
+    × (rightIn (stepOf k) ≡ cond (eqb (k % sides) noTransition) [] (k % sides ∷ []))
 unfolding stepOf
 step-takes k h = go (eqb (k / sides) noTransition) (eqb (k % sides) noTransition) refl refl
   where
     go : (a b : Bool) → eqb (k / sides) noTransition ≡ a → eqb (k % sides) noTransition ≡ b
-        → (leftIn (pick a (right (k % sides)) (pick b (left (k / sides)) (both (k / sides) (k % sides)))) ≡ pick a [] (k / sides ∷ []))
-        × (rightIn (pick a (right (k % sides)) (pick b (left (k / sides)) (both (k / sides) (k % sides)))) ≡ pick b [] (k % sides ∷ []))
+        → (leftIn (cond a (right (k % sides)) (cond b (left (k / sides)) (both (k / sides) (k % sides)))) ≡ cond a [] (k / sides ∷ []))
+        × (rightIn (cond a (right (k % sides)) (cond b (left (k / sides)) (both (k / sides) (k % sides)))) ≡ cond b [] (k % sides ∷ []))
     go true true e d = absurd (omega (arith, eqb-true (k / sides) noTransition e, eqb-true (k % sides) noTransition d))
     go true false e d = (refl, refl)
     go false true e d = (refl, refl)
@@ -35,7 +34,7 @@ step-takes k h = go (eqb (k / sides) noTransition) (eqb (k % sides) noTransition
 
 -- a side begins with what its first label takes
 side-cons : (r : Bool) (k : ℕ) (labels : List ℕ) → k < labelOf noTransition noTransition
-    → sideOf r (walkOf (k ∷ labels)) ≡ pick (eqb (takenOf r k) noTransition) [] (takenOf r k ∷ []) ++ sideOf r (walkOf labels)
+    → sideOf r (walkOf (k ∷ labels)) ≡ cond (eqb (takenOf r k) noTransition) [] (takenOf r k ∷ []) ++ sideOf r (walkOf labels)
 side-cons true k labels h = rw (step-takes k h .1)
 side-cons false k labels h = rw (step-takes k h .0)
 
@@ -86,7 +85,7 @@ module _ (r : Bool) (labels entry : List ℕ) where
         record { count = omega arith; stores = e ∙ sets-eq (rest 0) entry 0 (omega arith); short = omega arith }
 
     module _ (l : ℕ) (h : i < length labels) (e : l ≡ takenOf r (getD labels i 0)) where
-      rest-is : rest i ≡ pick (eqb l noTransition) [] (l ∷ []) ++ rest (i + 1)
+      rest-is : rest i ≡ cond (eqb l noTransition) [] (l ∷ []) ++ rest (i + 1)
       rest-is = rw (drop-cons labels i 0, add-one, e) (side-cons r (getD labels i 0) (drop (suc i) labels) (w .good i h))
 
       -- a label that takes no transition on the side

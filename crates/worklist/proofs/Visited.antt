@@ -1,6 +1,6 @@
 -- The laws of one visit: there is room for it, all stays found for a reason, what was found stays found, and its node is found.
 use mathlib.Core.Path.{_≡_, refl, sym, ap, _∙_}
-use mathlib.Core.Bool.{Bool, true, false}
+use mathlib.Core.Bool.{Bool, true, false, cond}
 use mathlib.Core.List.{List, [], _∷_}
 use mathlib.Core.Logic.{inl, inr}
 use Prim.Native.Nat.{ℕ, zero, suc, _+_, _≤_, _<_}
@@ -13,7 +13,7 @@ use borrow.Author.Tests.{eqb-true, eqb-false}
 use lib.ListN.{length, getD, set, length-set}
 use lib.Seq.{getD-set-same, getD-set-other}
 use lib.Dec.{eqb}
-use Rattle.worklist.specs.Lists.{Worklist, Found, zeros, Sized, pick, added, visited}
+use Rattle.worklist.specs.Lists.{Worklist, Found, zeros, Sized, added, visited}
 use Rattle.worklist.specs.Search.{Why, Grown, Extends}
 
 -- a store over a 0 leaves one 0 less
@@ -36,7 +36,7 @@ by-cases : (P : Worklist → Type 0) (s : Worklist) (node from label : ℕ)
     → P (visited s node from label)
 by-cases P s node from label new old = go (eqb (getD (s .rank) node 0) 0) refl
   where
-    go : (b : Bool) → eqb (getD (s .rank) node 0) 0 ≡ b → P (pick b (added s node from label) s)
+    go : (b : Bool) → eqb (getD (s .rank) node 0) 0 ≡ b → P (cond b (added s node from label) s)
     go true e = new (eqb-true _ _ e)
     go false e = old (omega (arith, eqb-false (getD (s .rank) node 0) 0 e))
 

@@ -1,6 +1,6 @@
 -- The lists of a worklist search over nodes that are numbered from 0, and what `visit` does to them.
 use mathlib.Core.Path.{_≡_}
-use mathlib.Core.Bool.{Bool, true, false}
+use mathlib.Core.Bool.{cond}
 use mathlib.Core.List.{List, [], _∷_}
 use Prim.Native.Nat.{ℕ, zero, suc, _+_, _<_, _^_}
 use lib.ListN.{length, getD, set}
@@ -47,11 +47,6 @@ pub record Sized (s : Worklist) : Type 0 where
   -- a place, and 1 + a place, is a `u32`
   pub small : length (s .rank) < 2 ^ 32
 
--- the first state where the test holds, else the second
-abbrev pub pick : Bool → Worklist → Worklist → Worklist
-pick true a b = a
-pick false a b = b
-
 -- the state with `node` at the next place, with its parent and label
 abbrev pub added : Worklist → ℕ → ℕ → ℕ → Worklist
 added s node from label =
@@ -65,4 +60,4 @@ added s node from label =
 
 -- what `visit` leaves: the same state where `node` is found, else the state with `node` added
 abbrev pub visited : Worklist → ℕ → ℕ → ℕ → Worklist
-visited s node from label = pick (eqb (getD (s .rank) node 0) 0) (added s node from label) s
+visited s node from label = cond (eqb (getD (s .rank) node 0) 0) (added s node from label) s

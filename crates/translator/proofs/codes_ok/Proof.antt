@@ -5,7 +5,7 @@ use native.Mathlib.Omega.{arith}
 use lib.ListN.{length}
 use Rattle.transducer.specs.Valid.{allBelow}
 use Rattle.transducer.proofs.Bools.{all-none, all-more, all-done}
-use Rattle.translator.specs.Words.{codeAt, codesOf}
+use Rattle.translator.specs.Words.{codeAt, allCodes}
 use Rattle.translator.proofs.codes_ok.Statement.{statement}
 use Rattle.translator.proofs.codes_ok.Tie as tie
 
@@ -31,7 +31,7 @@ loop-again : tie.Need-loop-again Inv-loop μ-loop
 loop-again c = (omega arith, all-more _ _ (c .before .before .loop .inv .1) refl)
 
 returns : tie.Need-returns Inv-loop μ-loop
-unfolding codesOf
+unfolding allCodes
 returns c = let i = c .before .loop .inv in all-done _ _ _ (i .0) (c .loop-test .left) (i .1)
 
 pub codes-ok-spec : {M : Type 1} → statement M

@@ -1,6 +1,6 @@
 -- `refusal` meets its contract. Assumes nothing.
 use borrow.Author.Needs.{needs}
-use Rattle.unit.specs.Answers.{codeOf}
+use Rattle.unit.specs.Answers.{refusalCode}
 use Rattle.unit.proofs.answers.refusal.Statement.{statement}
 use Rattle.unit.proofs.answers.refusal.Tie as tie
 
@@ -14,7 +14,7 @@ add-result c = search needs
 
 -- src/answers.rt:27:1
 returns : tie.Need-returns
-unfolding codeOf
+unfolding refusalCode
 returns c = search needs
 
 pub refusal-spec : {M : Type 1} → statement M
