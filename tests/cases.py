@@ -2,9 +2,7 @@
 
 from compare import answer, as_codes, compare_translation, expected_verdict, faults_of_verdict
 from listing import MAX_TRANSLATION, Refusal, parse_translation, show
-from programs import Programs
 from transducer import MAX_FILE, MAX_WORD, Transducer, Transition, record, table_file
-from workers import spread
 
 GROUP = "named case"
 MADE = "files that are compared with"
@@ -232,7 +230,3 @@ def run_in_pieces(programs, findings):
 def run(programs, findings):
     for part in (run_verdicts, run_refused_tables, run_translations, run_longest, run_in_pieces):
         part(programs, findings)
-
-
-def run_all(findings):
-    spread(Programs, [(run,)], findings)

@@ -5,7 +5,6 @@ import os
 import subprocess
 import time
 from ctypes import c_uint8, c_uint16, c_uint32, c_uint64
-from pathlib import Path
 
 from listing import MAX_TRANSLATION, MAX_WITNESS, MAX_WITNESS_OUTPUT, Refusal
 from programs import ROOT
