@@ -35,11 +35,12 @@ def faults_of(command, outside, expected, says=""):
                               text=True, timeout=TIME_LIMIT, check=False)
     except subprocess.TimeoutExpired:
         return [f"did not end within {TIME_LIMIT} seconds"]
-    last = COUNTS.fullmatch(done.stdout.rpartition("\n")[0].rpartition("\n")[2])
-    counts = tuple(map(int, last.groups())) if last else ()
-    right = len(counts) == 2 and all(have == want or want is None and have for have, want in zip(counts, expected))
-    if right and says in done.stdout and (done.returncode == 0) == (counts[1] == 0 < counts[0]):
-        return []
+    last = COUNTS.fullmatch(done.stdout.removesuffix("\n").rpartition("\n")[2])
+    if last and says in done.stdout:
+        passed, failed = counts = tuple(map(int, last.groups()))
+        as_counted = all(have == want or want is None and have > 0 for have, want in zip(counts, expected))
+        if as_counted and (done.returncode == 0) == (passed > 0 and failed == 0):
+            return []
     return [f"expected {expected} and {says!r}; exit status {done.returncode}, printed .. {done.stdout[-600:]}"]
 
 
