@@ -14,9 +14,12 @@ use Rattle.report.proofs.ReportLaws.{Few, Sized, lent-sized, judged-few
 use Rattle.report.proofs.verdict.Statement.{statement}
 use Rattle.report.proofs.verdict.Tie as tie
 
--- the function's entry, seen from the place behind the call of `judge`
+-- the function's entry, seen from the place behind the call of `judge`, over where the buffers are lent
+abbrev lending : tie.After-judge → tie.After-word
+lending c = c .before .before .before .before .before
+
 abbrev entry : tie.After-judge → tie.Start
-entry c = c .before .before .before .before .before .before .before .before
+entry c = lending c .before .before .before
 
 -- what is left in the five buffers
 abbrev left : tie.After-judge → Buffers
@@ -37,11 +40,17 @@ judged c = simp sub-zero at (c .judge .ensures)
 few : (c : tie.After-judge) → Few (c .judge .result .counts)
 few c = judged-few (judged c) lent-sized (sized c)
 
--- the same, seen from where no refusal was found
-abbrev answer : tie.Else1 → tie.After-judge
-answer c = c .before .before .before .before .before .before
+-- the place behind the call, seen from where the buffers are back, from where no refusal was found, and from where one is listed
+abbrev back : tie.After-output-y2 → tie.After-judge
+back c = c .before .before .before .before .before
 
--- that place, seen from the one before each part of a buffer is lent, and from the call of `list_verdict`
+abbrev answer : tie.Else1 → tie.After-judge
+answer c = back (c .before)
+
+abbrev refused : tie.After-list-refusal → tie.After-judge
+refused c = back (c .before .before .before)
+
+-- where no refusal was found, seen from the place before each part of a buffer is lent, and from the call of `list_verdict`
 abbrev from-w : tie.After-word3 → tie.Else1
 from-w c = c .before .before .before .before .before .before .before
 
@@ -59,10 +68,6 @@ from-y c = from-x (c .before .before)
 
 abbrev from-out : tie.After-list-verdict-arg6 → tie.Else1
 from-out c = from-y (c .before .before)
-
--- and from where a refusal is listed
-abbrev refused : tie.After-list-refusal → tie.After-judge
-refused c = c .before .before .before .before .before .before .before .before
 
 -- any listing fits the array, where a refusal is listed and where a verdict is
 refusal-room : (c : tie.After-list-refusal) → mostVerdictBytes ≤ length (now (entry (refused c) .args .out))

@@ -23,20 +23,24 @@ use Rattle.streams.proofs.step_of.Tie as tie
 tested : (z : ℤ) → SFits w64 z → toZ w64 (ofZ w64 z) ≡ z
 tested z fits = toZ-ofZ fits
 
+-- an answer above 0 counts bytes
 more : (z : ℤ) (size n : ℕ) → ltZ (pos 0) z ≡ true → n ≡ clamped z size → StepOf z size (Step.More n)
 more (pos zero) size n t e = absurd (false≢true t)
 more (pos (suc k)) size n t e = ap Step.More e
 more (negsuc k) size n t e = absurd (false≢true t)
 
+-- one below 0 is an interruption or a failure
 below : (z : ℤ) (size : ℕ) {r : Step} → ltZ z (pos 0) ≡ true → (r ≡ Step.Interrupted) ⊎ (r ≡ Step.Failed) → StepOf z size r
 below (pos k) size t e = absurd (let under = ltb-true k 0 t in omega arith)
 below (negsuc k) size t e = e
 
+-- 0 is the end
 ended : (z : ℤ) (size : ℕ) → ltZ (pos 0) z ≡ false → ltZ z (pos 0) ≡ false → StepOf z size Step.Ended
 ended (pos zero) size above under = refl
 ended (pos (suc k)) size above under = absurd (let none = ltb-false 0 (suc k) above in omega arith)
 ended (negsuc k) size above under = absurd (true≢false under)
 
+-- the entry, seen from behind the two calls and from the last place
 abbrev at-count : tie.After-count → tie.Start
 at-count c = c .before .before .before
 
