@@ -2,7 +2,7 @@
 use mathlib.Core.Path.{_≡_, refl, sym, ap, _∙_}
 use mathlib.Core.Bool.{Bool, true, false, cond}
 use mathlib.Core.List.{List, [], _∷_, map}
-use mathlib.Core.Logic.{_≢_, _↔_, _⊎_, inl, inr}
+use mathlib.Core.Logic.{_≢_, _⊎_, inl, inr}
 use Prim.Native.Nat.{ℕ, _≤_, _<_}
 use native.Mathlib.Decide.{ℕ-discrete}
 use native.Mathlib.Omega.{arith}
@@ -13,9 +13,7 @@ use Rattle.words.specs.Difference.{sharedOf, differenceOf}
 use Rattle.words.specs.Put.{put}
 use Rattle.words.specs.declared.Comparison.{Comparison}
 use Rattle.transducer.specs.Limits.{mostStates}
-use Rattle.transducer.specs.Useful.{UsefulState, UsefulPair}
-use Rattle.transducer.specs.Valid.{validOf}
-use Rattle.transducer.specs.declared.Transducer.{Transducer}
+use Rattle.transducer.specs.Useful.{UsefulPair}
 use Rattle.transducer.proofs.Bools.{le-or-lt}
 use Rattle.transducer.proofs.StateSetLaws.{has-below}
 use Rattle.tablereader.specs.Record.{firstOf}
@@ -36,22 +34,19 @@ use Rattle.pairsearch.proofs.StepLaws.{pair-again}
 use Rattle.pairs.specs.UsefulPairs.{hasPair, UsefulPairsOf}
 use Rattle.pairs.specs.declared.UsefulPairs.{UsefulPairs}
 use Rattle.pairs.proofs.PairSetLaws.{has-pair}
-use Rattle.translator.specs.Numbers as translation
 use Rattle.witness.specs.Showing.{Buffers}
-use Rattle.functionality.specs.Decided as verdict
-use Rattle.functionality.specs.Decided.{fullOf, refusalOf, Decided}
-use Rattle.functionality.specs.declared.Verdict.{Verdict}
+use Rattle.functionality.specs.Decided.{fullOf, refusalOf}
 use Rattle.functionality.proofs.DecidedLaws.{refused-zero}
 use Rattle.functionality.proofs.VerdictLaws.{counted}
-use Rattle.engine.specs.Engine.{numberOf, Taken, tableOf, judgementOf, Judged, fileTranslationOf, FileTranslated}
+use Rattle.engine.specs.Engine.{numberOf, Taken, tableOf, Judged, FileTranslated}
 use Rattle.engine.specs.declared.Judgement.{Judgement}
 use Rattle.engine.specs.declared.FileTranslation.{FileTranslation}
 use Rattle.engine.proofs.EngineLaws.{table-valid}
-use Rattle.unit.specs.Answers.{answerTooShort, refusalCode, fileCode, roomFault, flagOf, kindOf, numbersOf}
-use Rattle.unit.specs.Answers.{verdictAnswer, translateAnswer, pairsAnswer, differenceAnswer, writeAnswer}
+use Rattle.answers.specs.Answers.{answerTooShort, refusalCode, fileCode, roomFault, flagOf, kindOf, numbersOf, Given}
+use Rattle.answers.specs.Answers.{verdictAnswer, translateAnswer, pairsAnswer, differenceAnswer, writeAnswer}
 use Rattle.unit.specs.Calls.{verdictCode, VerdictGiven, translateCode, TranslationGiven, Flagged, statesCode, StatesGiven, pairsCode, PairsGiven}
 use Rattle.unit.specs.Calls.{DifferenceGiven, writeCode, FileGiven}
-use Rattle.unit.proofs.Codes.{this-one, none-then, no-more, room, no-room, no-record, code-zero, taken-code, code-taken}
+use Rattle.unit.proofs.Codes.{this-one, none-then, no-more, only-one, room, no-room, no-record, code-zero, taken-code, code-taken}
 
 -- ---- the verdict
 
@@ -105,22 +100,15 @@ module _ {f a : List ℕ} {b : Buffers} where
       }
 
   module _ {b′ : Buffers} {j : Judgement} (long : verdictAnswer ≤ length a) (h : Judged f b b′ j) where
-    pub verdict-refused : {r : ℕ} → j .number ≢ 0 → r ≡ refusalCode (j .number) (j .«record») → VerdictGiven f b b′ a a r
+    pub verdict-answered : {a′ : List ℕ} {r : ℕ} → Given (j .number) (j .«record») (numbersOf j) a a′ r → VerdictGiven f b b′ a a′ r
     unfolding verdictCode
-    verdict-refused n e =
+    verdict-answered g =
         record {
-          code = none-then _ (room _ _ _ long) (e ∙ judged-code h);
-          refused = λ _. (judged-unchanged h n, refl);
-          done = λ z. absurd (n (code-zero _ _ (sym e ∙ z)));
-        }
-
-    pub verdict-given : {a′ : List ℕ} → j .number ≡ 0 → a′ ≡ put a 0 (numbersOf j) → VerdictGiven f b b′ a a′ 0
-    unfolding verdictCode
-    verdict-given z e =
-        record {
-          code = none-then _ (room _ _ _ long) (sym (rw (z, judged-record h z) (no-record 0)) ∙ judged-code h);
-          refused = λ n. absurd (n refl);
-          done = λ _. record { judgement = j; judged = h; answer = e };
+          code = none-then _ (room _ _ _ long) (g .code ∙ judged-code h);
+          refused = λ n.
+              let refused : j .number ≢ 0 = λ z. n (g .code ∙ rw (z, judged-record h z) (no-record 0)) in
+              (judged-unchanged h refused, g .refused refused);
+          done = λ z. record { judgement = j; judged = h; answer = g .answered (code-zero _ _ (sym (g .code) ∙ z)) };
         }
 
 -- ---- the translation
@@ -155,27 +143,18 @@ module _ {f input out a : List ℕ} where
       }
 
   module _ {out′ : List ℕ} {q : FileTranslation} (long : translateAnswer ≤ length a) (h : FileTranslated f input out out′ q) where
-    pub translation-refused : {r : ℕ} → q .number ≢ 0 → r ≡ refusalCode (q .number) (q .«record») → TranslationGiven f input out out′ a a r
+    pub translation-answered : {a′ : List ℕ} {r : ℕ} → Given (q .number) (q .«record») (q .length ∷ []) a a′ r
+        → TranslationGiven f input out out′ a a′ r
     unfolding translateCode
-    translation-refused {r} n e =
-        let refused : r ≢ 0 = λ z. n (code-zero _ _ (sym e ∙ z)) in
+    translation-answered g =
         record {
           translation = q;
           translated = λ _. h;
-          code = none-then _ (room _ _ _ long) (this-one _ e refused);
-          refused = λ _. (translated-unchanged h n, refl);
-          done = λ z. absurd (refused z);
-        }
-
-    pub translation-given : {a′ : List ℕ} → q .number ≡ 0 → a′ ≡ put a 0 (q .length ∷ []) → TranslationGiven f input out out′ a a′ 0
-    unfolding translateCode
-    translation-given z e =
-        record {
-          translation = q;
-          translated = λ _. h;
-          code = none-then _ (room _ _ _ long) (none-then _ (rw (z, translated-record h z) (no-record 0)) no-more);
-          refused = λ n. absurd (n refl);
-          done = λ _. e;
+          code = none-then _ (room _ _ _ long) (only-one (g .code));
+          refused = λ n.
+              let refused : q .number ≢ 0 = λ z. n (g .code ∙ rw (z, translated-record h z) (no-record 0)) in
+              (translated-unchanged h refused, g .refused refused);
+          done = λ z. g .answered (code-zero _ _ (sym (g .code) ∙ z));
         }
 
 -- ---- useful states
@@ -330,23 +309,18 @@ module _ {f out a : List ℕ} where
     module _ {reading : Reading} {out′ : List ℕ} {w : Writing} (z : fileCode f ≡ 0) (reads : reading ≡ readOf f)
         (h : Wrote (reading .table) out out′ w)
       where
-        pub file-short : {r : ℕ} → r ≡ wrote.numberOf w → r ≢ 0 → FileGiven f out out′ a a r
+        pub file-answered : {n k r : ℕ} {a′ : List ℕ} → n ≡ wrote.numberOf w → k ≡ wrote.lengthOf w → Given n 0 (k ∷ []) a a′ r
+            → FileGiven f out out′ a a′ r
         unfolding writeCode
-        file-short e n =
+        file-answered {n} {r = r} number count g =
             let again = wrote-again f (code-taken f z) (rw reads at h) in
+            let code : r ≡ wrote.numberOf w = g .code ∙ no-record n ∙ number in
             record {
-              code = none-then _ (room _ _ _ long) (none-then _ z (this-one _ (e ∙ again .number) n));
-              refused = λ _. (again .short (λ k. n (e ∙ k)), refl);
-              done = λ k. absurd (n k);
-            }
-
-        pub file-given : {n : ℕ} {a′ : List ℕ} → wrote.numberOf w ≡ 0 → n ≡ wrote.lengthOf w → a′ ≡ put a 0 (n ∷ []) → FileGiven f out out′ a a′ 0
-        unfolding writeCode
-        file-given k count e =
-            let again = wrote-again f (code-taken f z) (rw reads at h) in
-            let file = again .written k in
-            record {
-              code = none-then _ (room _ _ _ long) (none-then _ z (none-then _ (sym (again .number) ∙ k) no-more));
-              refused = λ n. absurd (n refl);
-              done = λ _. (file .buffer, e ∙ ap (λ n. put a 0 (n ∷ [])) (count ∙ file .count));
+              code = none-then _ (room _ _ _ long) (none-then _ z (only-one (code ∙ again .number)));
+              refused = λ x.
+                  let refused : wrote.numberOf w ≢ 0 = λ e. x (code ∙ e) in
+                  (again .short refused, g .refused (λ e. refused (sym number ∙ e)));
+              done = λ x.
+                  let file = again .written (sym code ∙ x) in
+                  (file .buffer, g .answered (number ∙ sym code ∙ x) ∙ ap (λ m. put a 0 (m ∷ [])) (count ∙ file .count));
             }

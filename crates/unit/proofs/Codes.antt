@@ -3,6 +3,7 @@ use mathlib.Core.Path.{_≡_, refl, sym, ap, _∙_}
 use mathlib.Core.List.{List, [], _∷_}
 use mathlib.Core.Logic.{_≢_}
 use Prim.Native.Nat.{ℕ, _≤_, _<_}
+use native.Mathlib.Decide.{ℕ-discrete}
 use native.Mathlib.Omega.{arith}
 use borrow.Author.Tests.{eq-eqb, ne-eqb, lt-ltb, le-ltb}
 use lib.ListN.{length}
@@ -12,7 +13,7 @@ use Rattle.tablereader.specs.Record.{firstOf}
 use Rattle.tablereader.specs.declared.Reading.{Reading}
 use Rattle.tablereader.proofs.Outcomes.{taken-number}
 use Rattle.engine.specs.Engine.{Taken}
-use Rattle.unit.specs.Answers.{refusalCode, fileCode, roomFault}
+use Rattle.answers.specs.Answers.{refusalCode, fileCode, roomFault}
 
 -- ---- the first refusal
 
@@ -30,6 +31,14 @@ none-then faults {fault = fault} z e = rw (eq-eqb fault 0 z) e
 pub no-more : 0 ≡ firstOf []
 unfolding firstOf
 no-more = refl
+
+-- there is only one
+pub only-one : {r fault : ℕ} → r ≡ fault → r ≡ firstOf (fault ∷ [])
+only-one {r} {fault} e = go (ℕ-discrete r 0)
+  where
+    go : Dec (r ≡ 0) → r ≡ firstOf (fault ∷ [])
+    go (yes z) = none-then _ (sym e ∙ z) (z ∙ no-more)
+    go (no n) = this-one _ e n
 
 -- a list that has the places is no refusal
 pub room : (n : ℕ) (list : List ℕ) (fault : ℕ) → n ≤ length list → roomFault n list fault ≡ 0

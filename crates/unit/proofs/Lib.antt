@@ -1,5 +1,4 @@
--- How lists are filled and the contracts are met; `Boundary` is the statement of specs/Laws.antt, proved.
-mod Filling
+-- How the contracts are met; `Boundary` is the statement of specs/Laws.antt, proved.
 mod Codes
 mod CallLaws
 pub mod Boundary

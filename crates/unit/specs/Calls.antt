@@ -19,8 +19,8 @@ use Rattle.functionality.specs.Decided.{fullOf, UsefulCount}
 use Rattle.engine.specs.Engine.{tableOf, Judged, FileTranslated}
 use Rattle.engine.specs.declared.Judgement.{Judgement}
 use Rattle.engine.specs.declared.FileTranslation.{FileTranslation}
-use Rattle.unit.specs.Answers.{answerTooShort, refusalCode, fileCode, roomFault, flagOf, kindOf, numbersOf}
-use Rattle.unit.specs.Answers.{verdictAnswer, translateAnswer, pairsAnswer, differenceAnswer, writeAnswer}
+use Rattle.answers.specs.Answers.{answerTooShort, refusalCode, fileCode, roomFault, flagOf, kindOf, numbersOf}
+use Rattle.answers.specs.Answers.{verdictAnswer, translateAnswer, pairsAnswer, differenceAnswer, writeAnswer}
 
 -- Each record says the same three things: what is returned, that a refusal (not 0) changes nothing that is lent, and what is done where 0 is
 -- returned.

@@ -8,7 +8,7 @@ use lib.ListN.{getD, take}
 use Rattle.transducer.specs.Paths.{Functional}
 use Rattle.witness.specs.Showing.{Buffers}
 use Rattle.engine.specs.Engine.{Taken, tableOf}
-use Rattle.unit.specs.Answers.{refusalCode, fileCode}
+use Rattle.answers.specs.Answers.{refusalCode, fileCode}
 use Rattle.unit.specs.Calls.{VerdictGiven, TranslationGiven, StatesGiven, PairsGiven, DifferenceGiven, FileGiven}
 
 -- two verdicts are the same in all that document 01 settles

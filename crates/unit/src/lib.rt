@@ -1,13 +1,10 @@
-// The library that a unit links: document 01's calls for C, over lists and numbers only. Each returns 0, or a refusal as one number (`refusalCode` of
-// specs/Answers.antt); a refusal changes no list. Where the answer is several numbers they go to the front of the list `answer`, whose length is
+// The library that a unit links: document 01's calls for C, over lists and numbers only. Each returns 0, or a refusal as one number (`refusalCode` of the
+// crate `answers`); a refusal changes no list. Where the answer is several numbers they go to the front of the list `answer`, whose length is
 // looked at before anything else. The contracts cite specs/Calls.antt; specs/Laws.antt says what they determine.
 ghost use mathlib.Core.Path.{_≡_};
 ghost use Rattle.witness.specs.Showing.{buffersOf};
-ghost use Rattle.unit.specs.Answers.{fileCode};
+ghost use Rattle.answers.specs.Answers.{fileCode};
 ghost use Rattle.unit.specs.Calls.{VerdictGiven, TranslationGiven, StatesGiven, PairsGiven, DifferenceGiven, FileGiven};
-
-mod answers;
-
 use pairsearch::PAIRS;
 use transducer::limits;
 
@@ -45,12 +42,7 @@ pub extern "C" fn yotselina_verdict(
         return answers::TOO_SHORT;
     }
     let judgement = engine::judge(file, word, path_a, path_b, output_x, output_y);
-    let number = judgement.number;
-    if number != 0 {
-        return answers::refusal(number, judgement.record);
-    }
-    answers::put_judgement(answer, judgement);
-    0
+    answers::give_judgement(answer, judgement)
 }
 
 // Writes the output of the word `input` by a table file to the front of `output`; the answer is its length.
@@ -71,13 +63,8 @@ pub extern "C" fn yotselina_translate(
         return answers::TOO_SHORT;
     }
     let translation = engine::translate_file(file, input, output);
-    let number = translation.number;
-    if number != 0 {
-        return answers::refusal(number, translation.record);
-    }
     let numbers = [translation.length as u64];
-    answers::put_numbers(answer, &numbers);
-    0
+    answers::give(answer, &numbers, translation.number, translation.record)
 }
 
 // Puts a flag for each of the 32 states to the front of `flags`: whether it is useful.
@@ -161,11 +148,6 @@ pub extern "C" fn yotselina_write(file: &[u8], out: &mut [u8], answer: &mut [u64
     }
     let table = reading.table;
     let writing = tablewriter::write(table, out);
-    let number = answers::writing_number(writing);
-    if number != 0 {
-        return number;
-    }
     let numbers = [answers::writing_length(writing)];
-    answers::put_numbers(answer, &numbers);
-    0
+    answers::give(answer, &numbers, answers::writing_number(writing), 0)
 }

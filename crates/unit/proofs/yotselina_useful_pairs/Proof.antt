@@ -1,7 +1,7 @@
 -- `yotselina_useful_pairs` meets its contract: the answer list decides first, then the file, then the places for the flags. Assumes nothing.
 use mathlib.Core.Path.{_≡_, sym, _∙_}
 use borrow.Author.Needs.{needs}
-use Rattle.unit.specs.Answers.{fileCode}
+use Rattle.answers.specs.Answers.{fileCode}
 use Rattle.unit.proofs.Codes.{code-read}
 use Rattle.unit.proofs.CallLaws.{pairs-answer-short, pairs-refused, pairs-short, pairs-given}
 use Rattle.unit.proofs.yotselina_useful_pairs.Statement.{statement}

@@ -1,6 +1,6 @@
 -- `yotselina_verdict` meets its contract: the answer list decides first, then what the engine judges. Assumes nothing.
 use borrow.Author.Needs.{needs}
-use Rattle.unit.proofs.CallLaws.{verdict-short, verdict-refused, verdict-given}
+use Rattle.unit.proofs.CallLaws.{verdict-short, verdict-answered}
 use Rattle.unit.proofs.yotselina_verdict.Statement.{statement}
 use Rattle.unit.proofs.yotselina_verdict.Tie as tie
 
@@ -16,8 +16,8 @@ returns c = verdict-short (c .if1 .taken)
 judge-requires : tie.Need-judge-requires
 judge-requires c κs = search needs
 
-refusal-requires : tie.Need-refusal-requires
-refusal-requires c κs = search needs
+give-judgement-requires : tie.Need-give-judgement-requires
+give-judgement-requires c κs = search needs
 
 same-length : tie.Need-same-length
 same-length c = search needs
@@ -34,37 +34,13 @@ same-length-4 c = search needs
 same-length-5 : tie.Need-same-length-5
 same-length-5 c = search needs
 
-returns-2 : tie.Need-returns-2
-returns-2 c =
-    let at = judged (c .before .before) in
-    verdict-refused (entered at .if1 .left) (at .judge .ensures) (c .before .if2 .taken) (c .refusal .ensures)
-
-put-judgement-requires : tie.Need-put-judgement-requires
-put-judgement-requires c κs = search needs
-
 same-length-6 : tie.Need-same-length-6
 same-length-6 c = search needs
 
-same-length-7 : tie.Need-same-length-7
-same-length-7 c = search needs
-
-same-length-8 : tie.Need-same-length-8
-same-length-8 c = search needs
-
-same-length-9 : tie.Need-same-length-9
-same-length-9 c = search needs
-
-same-length-10 : tie.Need-same-length-10
-same-length-10 c = search needs
-
-same-length-11 : tie.Need-same-length-11
-same-length-11 c = search needs
-
-returns-3 : tie.Need-returns-3
-returns-3 c =
-    let accepted = c .before .before .before .before in
-    let at = judged (accepted .before) in
-    verdict-given (entered at .if1 .left) (at .judge .ensures) (accepted .if2 .left) (c .before .before .put-judgement .ensures)
+returns-2 : tie.Need-returns-2
+returns-2 c =
+    let at = judged (c .before .before .before .before) in
+    verdict-answered (entered at .if1 .left) (at .judge .ensures) (c .before .before .give-judgement .ensures)
 
 pub yotselina-verdict-spec : {M : Type 1} → statement M
 yotselina-verdict-spec =
@@ -72,18 +48,11 @@ yotselina-verdict-spec =
     (tie.spec
     returns
     judge-requires
-    refusal-requires
+    give-judgement-requires
     same-length
     same-length-2
     same-length-3
     same-length-4
     same-length-5
-    returns-2
-    put-judgement-requires
     same-length-6
-    same-length-7
-    same-length-8
-    same-length-9
-    same-length-10
-    same-length-11
-    returns-3)
+    returns-2)

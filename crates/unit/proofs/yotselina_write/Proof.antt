@@ -1,9 +1,9 @@
 -- `yotselina_write` meets its contract: the answer list decides first, then the file, then what the writer answers. Assumes nothing.
 use mathlib.Core.Path.{_≡_, sym, _∙_}
 use borrow.Author.Needs.{needs}
-use Rattle.unit.specs.Answers.{fileCode}
+use Rattle.answers.specs.Answers.{fileCode}
 use Rattle.unit.proofs.Codes.{code-read}
-use Rattle.unit.proofs.CallLaws.{file-answer-short, file-refused, file-short, file-given}
+use Rattle.unit.proofs.CallLaws.{file-answer-short, file-refused, file-answered}
 use Rattle.unit.proofs.yotselina_write.Statement.{statement}
 use Rattle.unit.proofs.yotselina_write.Tie as tie
 
@@ -17,7 +17,10 @@ entered c = c .before .before
 taken : (c : tie.Else2) → fileCode (start c .args .file .now) ≡ 0
 taken c = sym (code-read _ (c .before .before .read .ensures) (c .before .of-file .ensures)) ∙ c .if2 .left
 
-abbrev written : tie.After-writing-number → tie.After-write
+abbrev sized : tie.After-writing-number → tie.After-writing-length
+sized c = c .before .before .before
+
+abbrev written : tie.After-writing-length → tie.After-write
 written c = c .before .before .before
 
 abbrev accepted : tie.After-write → tie.Else2
@@ -39,43 +42,32 @@ returns-2 c =
 write-requires : tie.Need-write-requires
 write-requires c κs = search needs
 
+writing-length-requires : tie.Need-writing-length-requires
+writing-length-requires c κs = search needs
+
+slice-aggregate-give : tie.Need-slice-aggregate-give
+slice-aggregate-give c = search needs
+
 writing-number-requires : tie.Need-writing-number-requires
 writing-number-requires c κs = search needs
+
+give-requires : tie.Need-give-requires
+give-requires c κs = search needs
 
 same-length : tie.Need-same-length
 same-length c = search needs
 
-returns-3 : tie.Need-returns-3
-returns-3 c =
-    let at = written (c .before) in
-    let read = accepted at .before in
-    file-short (entered read .if1 .left) (taken (accepted at)) (read .before .read .ensures) (at .write .ensures) (c .before .writing-number .ensures)
-    (c .if3 .taken)
-
-writing-length-requires : tie.Need-writing-length-requires
-writing-length-requires c κs = search needs
-
-slice-aggregate-put-numbers : tie.Need-slice-aggregate-put-numbers
-slice-aggregate-put-numbers c = search needs
-
-put-numbers-requires : tie.Need-put-numbers-requires
-put-numbers-requires c κs = search needs
-
 same-length-2 : tie.Need-same-length-2
 same-length-2 c = search needs
 
-same-length-3 : tie.Need-same-length-3
-same-length-3 c = search needs
-
-returns-4 : tie.Need-returns-4
-returns-4 c =
-    let length = c .before .before .before .before .before in
-    let number = length .before .before in
-    let at = written number in
+returns-3 : tie.Need-returns-3
+returns-3 c =
+    let number = c .before .before .before in
+    let length = sized number in
+    let at = written length in
     let read = accepted at .before in
-    file-given (entered read .if1 .left) (taken (accepted at)) (read .before .read .ensures) (at .write .ensures)
-    (sym (number .writing-number .ensures) ∙ length .before .if3 .left) (length .writing-length .ensures)
-    (c .before .before .put-numbers .ensures)
+    file-answered (entered read .if1 .left) (taken (accepted at)) (read .before .read .ensures) (at .write .ensures) (number .writing-number .ensures)
+    (length .writing-length .ensures) (c .before .before .give .ensures)
 
 pub yotselina-write-spec : {M : Type 1} → statement M
 yotselina-write-spec =
@@ -86,12 +78,10 @@ yotselina-write-spec =
     of-file-requires
     returns-2
     write-requires
-    writing-number-requires
-    same-length
-    returns-3
     writing-length-requires
-    slice-aggregate-put-numbers
-    put-numbers-requires
+    slice-aggregate-give
+    writing-number-requires
+    give-requires
+    same-length
     same-length-2
-    same-length-3
-    returns-4)
+    returns-3)

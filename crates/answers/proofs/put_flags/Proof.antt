@@ -6,10 +6,10 @@ use Prim.Native.Nat.{_-_}
 use native.Mathlib.Omega.{arith}
 use borrow.Author.Needs.{needs}
 use lib.ListN.{length, getD, length-map, List·getD-map}
-use Rattle.unit.specs.Answers.{flagOf}
-use Rattle.unit.proofs.Filling.{Filled, filled-none, filled-next, filled-all, flag-byte}
-use Rattle.unit.proofs.answers.put_flags.Statement.{statement}
-use Rattle.unit.proofs.answers.put_flags.Tie as tie
+use Rattle.answers.specs.Answers.{flagOf}
+use Rattle.answers.proofs.Filling.{Filled, filled-none, filled-next, filled-all, flag-byte}
+use Rattle.answers.proofs.put_flags.Statement.{statement}
+use Rattle.answers.proofs.put_flags.Tie as tie
 
 abbrev Inv-loop : tie.InvT-loop
 Inv-loop list₀ flags i₀ list i = Filled list₀ (map flagOf flags) list i

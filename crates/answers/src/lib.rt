@@ -1,4 +1,4 @@
-// What an exported function returns, and how its numbers and flags are put into lists.
+// What the exported functions of `unit` return, and how their numbers and flags are put into lists. The contracts cite specs/Answers.antt.
 ghost use mathlib.Core.Path.{_≡_};
 ghost use mathlib.Core.List.{map};
 ghost use Prim.Native.Nat.{_≤_};
@@ -6,7 +6,7 @@ ghost use lib.ListN.{length};
 ghost use Rattle.words.specs.Put.{put};
 ghost use Rattle.tablereader.specs.Outcome.{numberOf, recordOf};
 ghost use Rattle.tablewriter.specs.Writing as wrote;
-ghost use Rattle.unit.specs.Answers.{refusalCode, verdictAnswer, flagOf, kindOf, numbersOf};
+ghost use Rattle.answers.specs.Answers.{refusalCode, verdictAnswer, flagOf, kindOf, numbersOf, Given};
 use engine::Judgement;
 use tablereader::Outcome;
 use tablewriter::Writing;
@@ -27,8 +27,6 @@ pub const WRITE: usize = 1;
 pub const TOO_SHORT: u32 = 100;
 // Document 01's refusal of a buffer that is too short.
 pub const BUFFER_TOO_SHORT: u32 = 7;
-// Document 01's refusal of a transducer that breaks a rule.
-pub const INVALID: u32 = 8;
 
 // A refusal as one number: its own number in the low 16 bits, the record's number above.
 pub fn refusal(number: u16, at: u16) -> u32
@@ -57,13 +55,13 @@ pub fn kind(comparison: Comparison) -> u64
 }
 
 // Document 01's number of a writing, 0 where the file was written.
-pub fn writing_number(writing: Writing) -> u32
+pub fn writing_number(writing: Writing) -> u16
     ensures { λ r. ⌜ r ≡ wrote.numberOf writing ⌝ }
 {
     match writing {
         Writing::Written(_) => 0,
-        Writing::Invalid => INVALID,
-        Writing::BufferTooShort => BUFFER_TOO_SHORT,
+        Writing::Invalid => 8,
+        Writing::BufferTooShort => 7,
     }
 }
 
@@ -78,10 +76,22 @@ pub fn writing_length(writing: Writing) -> u64
     }
 }
 
-// Puts the seven numbers of a judgement to the front of the answer list.
-pub fn put_judgement(answer: &mut [u64], judgement: Judgement)
+// Ends a call: returns its refusal as one number, and puts the numbers to the front of the answer list where there is none.
+pub fn give(answer: &mut [u64], numbers: &[u64], number: u16, at: u16) -> u32
+    requires { ⌜ length (now numbers) ≤ length (now answer) ⌝ }
+    ensures { λ r. ⌜ Given number at (now (numbers .entry)) (now (answer .entry)) (now (answer .exit)) r ⌝ }
+{
+    if number != 0 {
+        return refusal(number, at);
+    }
+    put_numbers(answer, numbers);
+    refusal(number, at)
+}
+
+// The same for the seven numbers of a judgement.
+pub fn give_judgement(answer: &mut [u64], judgement: Judgement) -> u32
     requires { ⌜ verdictAnswer ≤ length (now answer) ⌝ }
-    ensures { λ _. ⌜ now (answer .exit) ≡ put (now (answer .entry)) 0 (numbersOf judgement) ⌝ }
+    ensures { λ r. ⌜ Given (judgement .number) (judgement .«record») (numbersOf judgement) (now (answer .entry)) (now (answer .exit)) r ⌝ }
 {
     let counts = judgement.counts;
     let numbers = [
@@ -93,7 +103,7 @@ pub fn put_judgement(answer: &mut [u64], judgement: Judgement)
         counts.output_x as u64,
         counts.output_y as u64,
     ];
-    put_numbers(answer, &numbers);
+    give(answer, &numbers, judgement.number, judgement.record)
 }
 
 // Puts numbers to the front of a list.

@@ -1,9 +1,12 @@
 -- The numbers that an exported function returns, and those that it puts into lists.
+use mathlib.Core.Path.{_≡_}
 use mathlib.Core.Bool.{Bool, true, false, cond}
 use mathlib.Core.List.{List, [], _∷_}
+use mathlib.Core.Logic.{_≢_}
 use Prim.Native.Nat.{ℕ, _+_, _*_}
 use lib.Dec.{ltb}
 use lib.ListN.{length}
+use Rattle.words.specs.Put.{put}
 use Rattle.words.specs.declared.Comparison.{Comparison}
 use Rattle.words.specs.declared.Comparison.the-variants.{Level, FirstAhead, SecondAhead, Clash}
 use Rattle.engine.specs.Engine.{numberOf, recordOf}
@@ -67,3 +70,9 @@ kindOf Clash = 3
 unfoldable pub numbersOf : Judgement → List ℕ
 numbersOf r =
     flagOf (r .split) ∷ r .useful ∷ r .counts .word ∷ r .counts .«path_a» ∷ r .counts .«path_b» ∷ r .counts .«output_x» ∷ r .counts .«output_y» ∷ []
+
+-- a call ends with a refusal, or with numbers at the front of the answer list, which held a and holds a′
+pub record Given (number at : ℕ) (numbers a a′ : List ℕ) (r : ℕ) : Type 0 where
+  pub code : r ≡ refusalCode number at
+  pub refused : number ≢ 0 → a′ ≡ a
+  pub answered : number ≡ 0 → a′ ≡ put a 0 numbers

@@ -2,7 +2,7 @@
 use mathlib.Core.Path.{_≡_, refl, sym, ap, _∙_}
 use mathlib.Core.Bool.{Bool, true, false}
 use mathlib.Core.List.{List, [], _∷_}
-use Prim.Native.Nat.{ℕ, suc, _+_, _≤_, _<_}
+use Prim.Native.Nat.{ℕ, _+_, _≤_, _<_}
 use native.Mathlib.Numerals.{add-one}
 use native.Mathlib.Omega.{arith}
 use mir.Val.{boolByte}
@@ -10,7 +10,7 @@ use lib.ListN.{length, getD, set, drop, length-set, drop-of-length-le}
 use lib.Seq.{drop-cons}
 use Rattle.words.specs.Put.{put}
 use Rattle.words.proofs.PutLaws.{put-none, put-one, put-behind}
-use Rattle.unit.specs.Answers.{flagOf}
+use Rattle.answers.specs.Answers.{flagOf}
 
 -- a flag as the code casts it
 pub flag-byte : (b : Bool) → flagOf b ≡ boolByte b

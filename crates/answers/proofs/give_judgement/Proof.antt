@@ -1,10 +1,9 @@
--- `put_judgement` meets its contract. Assumes nothing.
-use mathlib.Core.Path.{_∙_}
+-- `give_judgement` meets its contract. Assumes nothing.
 use borrow.Author.Needs.{needs}
-use Rattle.unit.specs.Answers.{numbersOf}
-use Rattle.unit.proofs.Filling.{flag-byte}
-use Rattle.unit.proofs.answers.put_judgement.Statement.{statement}
-use Rattle.unit.proofs.answers.put_judgement.Tie as tie
+use Rattle.answers.specs.Answers.{numbersOf}
+use Rattle.answers.proofs.Filling.{flag-byte}
+use Rattle.answers.proofs.give_judgement.Statement.{statement}
+use Rattle.answers.proofs.give_judgement.Tie as tie
 
 abbrev start : tie.After-slice-known2 → tie.Start
 start c = c .before .before .before .before .before .before .before .before .before .before .before .before .before .before
@@ -30,21 +29,21 @@ cast-t10 c = search needs
 cast-t11 : tie.Need-cast-t11
 cast-t11 c = search needs
 
-slice-aggregate-put-numbers : tie.Need-slice-aggregate-put-numbers
-slice-aggregate-put-numbers c = search needs
+slice-aggregate-give : tie.Need-slice-aggregate-give
+slice-aggregate-give c = search needs
 
-put-numbers-requires : tie.Need-put-numbers-requires
-put-numbers-requires c κs = search needs
+give-requires : tie.Need-give-requires
+give-requires c κs = search needs
 
 same-length : tie.Need-same-length
 same-length c = search needs
 
 returns : tie.Need-returns
 unfolding numbersOf
-returns c = c .before .before .put-numbers .ensures ∙ rw (flag-byte (start c .args .judgement .split))
+returns c = rw (flag-byte (start c .args .judgement .split)) (c .before .before .give .ensures)
 
-pub put-judgement-spec : {M : Type 1} → statement M
-put-judgement-spec =
+pub give-judgement-spec : {M : Type 1} → statement M
+give-judgement-spec =
     tie.close
     (tie.spec
     cast-t5
@@ -54,7 +53,7 @@ put-judgement-spec =
     cast-t9
     cast-t10
     cast-t11
-    slice-aggregate-put-numbers
-    put-numbers-requires
+    slice-aggregate-give
+    give-requires
     same-length
     returns)

@@ -3,9 +3,9 @@ use mathlib.Core.Path.{refl}
 use Prim.Native.Nat.{_-_}
 use native.Mathlib.Omega.{arith}
 use lib.ListN.{length}
-use Rattle.unit.proofs.Filling.{Filled, filled-none, filled-next, filled-all}
-use Rattle.unit.proofs.answers.put_numbers.Statement.{statement}
-use Rattle.unit.proofs.answers.put_numbers.Tie as tie
+use Rattle.answers.proofs.Filling.{Filled, filled-none, filled-next, filled-all}
+use Rattle.answers.proofs.put_numbers.Statement.{statement}
+use Rattle.answers.proofs.put_numbers.Tie as tie
 
 abbrev Inv-loop : tie.InvT-loop
 Inv-loop list₀ numbers i₀ list i = Filled list₀ numbers list i

@@ -1,0 +1,2 @@
+-- How lists are filled.
+mod Filling
