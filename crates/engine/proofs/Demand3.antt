@@ -54,10 +54,10 @@ false-exactly {b} {P} h = (λ e p. let t = h .1 p in let z : _≡_ {A = ℕ} 0 1
     go false h n = refl
 
 -- flags that are false together are the same
-same-flag : (a b : Bool) → (a ≡ false → b ≡ false) → (b ≡ false → a ≡ false) → a ≡ b
-same-flag false b f g = sym (f refl)
-same-flag true false f g = g refl
-same-flag true true f g = refl
+false-together : (a b : Bool) → (a ≡ false → b ≡ false) → (b ≡ false → a ≡ false) → a ≡ b
+false-together false b f g = sym (f refl)
+false-together true false f g = g refl
+false-together true true f g = refl
 
 -- ---- a verdict that is no refusal
 
@@ -153,7 +153,7 @@ demand-3 f taken =
       shows = file-shows taken;
       translates = λ h single k short π a e. file-output taken (file-functional taken h .0 single) k short a e;
       alike = λ h taken′ alike h′. (
-        same-flag _ _
+        false-together _ _
             (λ e. file-functional taken′ h′ .1 (alike-functional alike .0 (file-functional taken h .0 e)))
             (λ e. file-functional taken h .1 (alike-functional alike .1 (file-functional taken′ h′ .0 e))),
         useful-count-unique (alike-useful-count alike (file-useful taken h)) (file-useful taken′ h′),

@@ -16,7 +16,7 @@ use Rattle.transducer.specs.Valid.{Valid, validOf}
 use Rattle.transducer.specs.Alike.{Alike}
 use Rattle.transducer.specs.declared.StateSet.{StateSet}
 use Rattle.transducer.specs.declared.Transducer.{Transducer}
-use Rattle.transducer.proofs.Bools.{and-left, and-right}
+use Rattle.transducer.proofs.Bools.{and-left, and-right, same-flag}
 use Rattle.transducer.proofs.Facts.{valid-exactly}
 use Rattle.transducer.proofs.AlikeLaws.{alike-useful-pair}
 use Rattle.pairsearch.specs.Numbers.{mostPairs, pairOf, firstOf, secondOf}
@@ -66,24 +66,19 @@ count-most [] = omega arith
 count-most (true ∷ l) = omega (arith, count-most l)
 count-most (false ∷ l) = omega (arith, count-most l)
 
+-- the flag at v tells whether the pair with the number v is in the set
+pub pair-flag : (s : PairSet) (v : ℕ) → v < mostPairs → getD (s .member) v false ≡ hasPair s (firstOf v) (secondOf v)
+pair-flag s v h =
+    ap (λ i. getD (s .member) i false) (sym (pair-again v)) ∙ sym (has-pair s (firstOf v) (secondOf v) (omega arith) (omega arith))
+
 -- two sets that hold the same are the same
 pub same-pairs : (s r : PairSet) → length (s .member) ≡ mostPairs → length (r .member) ≡ mostPairs
     → ((p q : ℕ) → hasPair s p q ≡ hasPair r p q) → s ≡ r
 same-pairs s r l k e =
     ap (λ (m : List Bool). let z : PairSet = record { member = m } in z)
-    (ext-getD false (s .member) (r .member) (l ∙ sym k) (λ v h. flag s v (omega (arith, l)) ∙ e (firstOf v) (secondOf v) ∙ sym (flag r v (omega (arith, l)))))
-  where
-    flag : (s : PairSet) (v : ℕ) → v < mostPairs → getD (s .member) v false ≡ hasPair s (firstOf v) (secondOf v)
-    flag s v h =
-        ap (λ i. getD (s .member) i false) (sym (pair-again v)) ∙ sym (has-pair s (firstOf v) (secondOf v) (omega arith) (omega arith))
+    (ext-getD false (s .member) (r .member) (l ∙ sym k) (λ v h. pair-flag s v (omega (arith, l)) ∙ e (firstOf v) (secondOf v) ∙ sym (pair-flag r v (omega (arith, l)))))
 
 -- ---- the answer
-
--- two flags that are true together are the same
-pub same-flag : (a b : Bool) → (a ≡ true → b ≡ true) → (b ≡ true → a ≡ true) → a ≡ b
-same-flag true b f g = sym (f refl)
-same-flag false true f g = g refl
-same-flag false false f g = refl
 
 -- nothing keeps the rules and breaks one
 not-valid : {A : Type 0} {b : Bool} → b ≡ true → b ≡ false → A

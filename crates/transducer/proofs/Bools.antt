@@ -30,6 +30,12 @@ all-more n f p q = rw (add-one, p, q)
 pub all-done : (i n : ℕ) (f : ℕ → Bool) {b : Bool} → i ≤ n → n ≤ i → b ≡ allBelow i f → b ≡ allBelow n f
 all-done i n f h k p = let e : i ≡ n = omega arith in rw (← e) p
 
+-- two tests that are true together are the same
+pub same-flag : (a b : Bool) → (a ≡ true → b ≡ true) → (b ≡ true → a ≡ true) → a ≡ b
+same-flag true b f g = sym (f refl)
+same-flag false true f g = g refl
+same-flag false false f g = refl
+
 -- ---- a test that is true, and its parts
 
 pub and-left : (a b : Bool) → (a && b) ≡ true → a ≡ true

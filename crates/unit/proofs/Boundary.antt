@@ -10,8 +10,7 @@ use lib.ListN.{length, getD, take}
 use lib.Seq.{ext-getD}
 use Rattle.words.specs.Put.{put}
 use Rattle.transducer.specs.Paths.{Functional}
-use Rattle.transducer.proofs.Bools.{le-or-lt}
-use Rattle.pairs.proofs.PairSetLaws.{same-flag}
+use Rattle.transducer.proofs.Bools.{le-or-lt, same-flag}
 use Rattle.witness.specs.Showing.{Buffers}
 use Rattle.functionality.proofs.DecidedLaws.{useful-count-unique}
 use Rattle.engine.specs.Engine.{Taken, tableOf}

@@ -8,7 +8,7 @@ use native.Mathlib.Decide.{ℕ-discrete}
 use native.Mathlib.Omega.{arith}
 use borrow.Author.Tests.{lt-leb}
 use lib.Dec.{eqb, leb}
-use lib.ListN.{length, getD}
+use lib.ListN.{length}
 use Rattle.words.specs.Difference.{sharedOf, differenceOf}
 use Rattle.words.specs.Put.{put}
 use Rattle.words.specs.declared.Comparison.{Comparison}
@@ -30,10 +30,9 @@ use Rattle.useful.specs.UsefulStates.{UsefulStatesOf}
 use Rattle.useful.specs.declared.UsefulStates.{UsefulStates}
 use Rattle.pairsearch.specs.Numbers as pair
 use Rattle.pairsearch.specs.Numbers.{mostPairs}
-use Rattle.pairsearch.proofs.StepLaws.{pair-again}
-use Rattle.pairs.specs.UsefulPairs.{hasPair, UsefulPairsOf}
+use Rattle.pairs.specs.UsefulPairs.{UsefulPairsOf}
 use Rattle.pairs.specs.declared.UsefulPairs.{UsefulPairs}
-use Rattle.pairs.proofs.PairSetLaws.{has-pair}
+use Rattle.pairs.proofs.PairSetLaws.{pair-flag}
 use Rattle.witness.specs.Showing.{Buffers}
 use Rattle.functionality.specs.Decided.{fullOf, refusalOf}
 use Rattle.functionality.proofs.DecidedLaws.{refused-zero}
@@ -203,14 +202,9 @@ flagged-pairs f {r = r} useful e =
       size = useful .long;
       exactly = λ i low.
           let exact = useful .members (table-valid f) (pair.firstOf i) (pair.secondOf i) in
-          (λ k. exact .0 (sym (flag i low) ∙ k), λ u. flag i low ∙ exact .1 u);
+          let flag = pair-flag (r .set) i low in (λ k. exact .0 (sym flag ∙ k), λ u. flag ∙ exact .1 u);
       list = e;
     }
-  where
-    flag : (i : ℕ) → i < mostPairs → getD (r .set .member) i false ≡ hasPair (r .set) (pair.firstOf i) (pair.secondOf i)
-    flag i low =
-        ap (λ v. getD (r .set .member) v false) (sym (pair-again i))
-        ∙ sym (has-pair (r .set) (pair.firstOf i) (pair.secondOf i) (omega arith) (omega arith))
 
 module _ {f flags a : List ℕ} where
   pub pairs-answer-short : length a < pairsAnswer → PairsGiven f flags flags a a answerTooShort

@@ -8,17 +8,12 @@ use Rattle.transducer.specs.StateSet.{has}
 use Rattle.transducer.specs.Valid.{validOf}
 use Rattle.transducer.specs.declared.StateSet.{StateSet}
 use Rattle.transducer.specs.declared.Transducer.{Transducer}
+use Rattle.transducer.proofs.Bools.{same-flag}
 use Rattle.transducer.proofs.StateSetLaws.{same-set}
 use Rattle.useful.specs.UsefulStates.{numberOf, UsefulStatesOf}
 use Rattle.useful.specs.declared.Outcome.{Outcome}
 use Rattle.useful.specs.declared.Outcome.the-variants.{Found, Invalid}
 use Rattle.useful.specs.declared.UsefulStates.{UsefulStates}
-
--- two tests that hold together are the same
-same-test : (a b : Bool) → (a ≡ true → b ≡ true) → (b ≡ true → a ≡ true) → a ≡ b
-same-test true b f g = sym (f refl)
-same-test false true f g = g refl
-same-test false false f g = refl
 
 -- an outcome is told by its number
 same-outcome : (a b : Outcome) → numberOf a ≡ numberOf b → a ≡ b
@@ -38,6 +33,6 @@ useful-states-determined t r s h k =
     go false e = h .refused e ∙ sym (k .refused e)
     go true e =
         same-set (r .states) (s .states) (h .long) (k .long)
-        (λ q. same-test (has (r .states) q) (has (s .states) q)
+        (λ q. same-flag (has (r .states) q) (has (s .states) q)
         (λ m. k .members e q .1 (h .members e q .0 m))
         (λ m. h .members e q .1 (k .members e q .0 m)))
