@@ -9,8 +9,8 @@ use lib.ListN.{length, getD, set, replicate, length-set, length-replicate, getD-
 use lib.Seq.{getD-set-other}
 use Rattle.transducer.specs.Useful.{UsefulPair}
 use Rattle.transducer.specs.declared.Transducer.{Transducer}
-use Rattle.pairsearch.specs.Numbers.{mostPairs, pairOf, firstOf, secondOf}
-use Rattle.pairsearch.proofs.StepLaws.{pair-first, pair-second}
+use Rattle.product.specs.Numbers.{mostPairs, pairOf, firstOf, secondOf}
+use Rattle.product.proofs.LabelLaws.{pair-first, pair-second}
 use Rattle.pairs.specs.UsefulPairs.{hasPair, countTrue}
 use Rattle.pairs.proofs.PairSetLaws.{has-pair, pair-low}
 use Rattle.functionality.specs.Decided.{UsefulCount}

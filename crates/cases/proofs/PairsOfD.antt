@@ -11,7 +11,7 @@ use Rattle.transducer.specs.Transition.{at, readBy}
 use Rattle.transducer.specs.Paths.{Path, here, step, reads}
 use Rattle.transducer.specs.Useful.{Through, UsefulPair}
 use Rattle.transducer.proofs.PathLaws.{path-join}
-use Rattle.pairsearch.specs.Numbers.{pairOf, firstOf, secondOf}
+use Rattle.product.specs.Numbers.{pairOf, firstOf, secondOf}
 use Rattle.pairs.specs.UsefulPairs.{hasPair, countTrue}
 use Rattle.functionality.specs.Decided.{UsefulCount}
 use Rattle.cases.specs.Cases.{setOfStates, transducerOf, tableD}

@@ -10,7 +10,7 @@ use Rattle.transducer.specs.Valid.{validOf}
 use Rattle.transducer.specs.Paths.{Functional}
 use Rattle.transducer.specs.Useful.{UsefulPair}
 use Rattle.transducer.specs.declared.Transducer.{Transducer}
-use Rattle.pairsearch.specs.Numbers.{mostPairs}
+use Rattle.product.specs.Numbers.{mostPairs}
 use Rattle.pairs.specs.UsefulPairs.{hasPair, countTrue}
 use Rattle.pairs.specs.declared.PairSet.{PairSet}
 use Rattle.witness.specs.Sides.{mostSteps}

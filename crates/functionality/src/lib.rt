@@ -5,8 +5,10 @@ ghost use mathlib.Core.Bool.{true};
 ghost use Rattle.transducer.specs.Valid.{validOf};
 ghost use Rattle.witness.specs.Showing.{buffersOf};
 ghost use Rattle.functionality.specs.Decided.{fullOf, longEnough, quietVerdict, Decided};
-use candidates::Found;
-use pairsearch::PAIRS;
+use equations::Found;
+use product::machine;
+use product::machine::PLACES;
+use product::steps::PAIRS;
 use transducer::Transducer;
 use transducer::validity;
 use witness::CODES;
@@ -107,13 +109,13 @@ fn examine(
         r
         ⌝ }
 {
-    let mut into = [0u16; PAIRS];
-    let mut into_step = [0u32; PAIRS];
+    let mut m = [0u16; PLACES];
+    machine::by_input(t, &mut m);
     let mut out = [0u16; PAIRS];
     let mut out_step = [0u32; PAIRS];
     let mut steps = [0u32; STEPS];
-    let found = pairs::ways(t, &mut into, &mut into_step, &mut out, &mut out_step);
-    match candidates::search(t, found, &into, &into_step, &out, &out_step, &mut steps) {
+    let found = pairs::ways_out(t, &m, &mut out, &mut out_step);
+    match equations::search(t, &m, found, &out, &out_step, &mut steps) {
         Found::Nothing => quiet(Outcome::Functional, found.count),
         Found::At(start, end) => {
             let counts = witness::show(

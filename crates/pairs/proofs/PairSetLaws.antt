@@ -2,13 +2,15 @@
 -- determines the answer; that there are at most 1,024 useful pairs; that transducers that are equal up to order have the same answer.
 -- Assumes nothing.
 use mathlib.Core.Path.{_≡_, refl, sym, ap, _∙_}
-use mathlib.Core.Bool.{Bool, true, false, _&&_}
+use mathlib.Core.Bool.{Bool, true, false, _&&_, cond}
 use mathlib.Core.List.{List, [], _∷_}
+use mathlib.Core.Logic.{_↔_}
 use Prim.Native.Nat.{ℕ, zero, suc, _+_, _≤_, _<_}
+use native.Mathlib.Decide.{decLt}
 use native.Mathlib.Omega.{arith}
 use borrow.Author.Tests.{lt-ltb, ltb-true}
 use lib.Dec.{ltb}
-use lib.ListN.{length, getD, replicate, length-map, length-replicate, List·getD-map}
+use lib.ListN.{length, getD, replicate, length-map, length-replicate, List·getD-map, List·getD-eq-default}
 use lib.Seq.{ext-getD}
 use Rattle.worklist.specs.Lists.{Worklist, Found, zeros}
 use Rattle.transducer.specs.Limits.{mostStates}
@@ -19,13 +21,14 @@ use Rattle.transducer.specs.declared.Transducer.{Transducer}
 use Rattle.transducer.proofs.Bools.{and-left, and-right, same-flag}
 use Rattle.transducer.proofs.Facts.{valid-exactly}
 use Rattle.transducer.proofs.AlikeLaws.{alike-useful-pair}
-use Rattle.pairsearch.specs.Numbers.{mostPairs, pairOf, firstOf, secondOf}
+use Rattle.product.specs.Confined.{Allowed}
+use Rattle.product.specs.Numbers.{mostPairs, pairOf, firstOf, secondOf}
 use Rattle.pairs.specs.UsefulPairs.{hasPair, noPairs, pairsOf, countTrue, numberOf, UsefulPairsOf}
-use Rattle.pairs.specs.Ways.{Tree}
+use Rattle.pairs.specs.Ways.{Useful, Tree, Marked}
 use Rattle.pairs.specs.declared.Outcome.{Outcome}
 use Rattle.pairs.specs.declared.PairSet.{PairSet}
 use Rattle.pairs.specs.declared.UsefulPairs.{UsefulPairs}
-use Rattle.pairsearch.proofs.StepLaws.{pair-first, pair-second, pair-again}
+use Rattle.product.proofs.LabelLaws.{pair-first, pair-second, pair-again}
 use Rattle.pairs.proofs.UsefulLaws.{useful-low}
 
 -- ---- what a set holds
@@ -165,3 +168,26 @@ alike-useful-pairs alike valid valid′ a a′ =
       long = a .long;
     })
     a′
+
+-- the numbers that stand for the set of the useful pairs allow exactly these
+pub marked-useful : {t : Transducer} {r : UsefulPairs} {numbers : List ℕ} → Valid t → UsefulPairsOf t r → Marked (r .set .member) numbers mostPairs
+    → (v : ℕ) → Allowed numbers v ↔ Useful t v
+marked-useful {t} {r} {numbers} valid a m v = go (decLt v mostPairs)
+  where
+    -- the number of a pair says whether it is in the set
+    by-flag : v < mostPairs → (b : Bool) → getD (r .set .member) v false ≡ b → Allowed numbers v ↔ Useful t v
+    by-flag h true e = (
+      λ i. a .members (valid-exactly t .1 valid) (firstOf v) (secondOf v) .0 (sym (pair-flag (r .set) v h) ∙ e),
+      λ u. omega (arith, m .in-set v h ∙ ap (λ b. cond b 1 0) e),
+    )
+    by-flag h false e = (
+      λ i. absurd (omega (arith, m .in-set v h ∙ ap (λ b. cond b 1 0) e)),
+      λ u. not-valid (pair-flag (r .set) v h ∙ a .members (valid-exactly t .1 valid) (firstOf v) (secondOf v) .1 u) e,
+    )
+
+    go : Dec (v < mostPairs) → Allowed numbers v ↔ Useful t v
+    go (yes h) = by-flag h (getD (r .set .member) v false) refl
+    go (no h) = (
+      λ i. absurd (omega (arith, List·getD-eq-default numbers 0 {n = v} (omega (arith, m .long)))),
+      λ u. absurd (let low = useful-low valid u in omega arith),
+    )

@@ -10,7 +10,7 @@ use Rattle.transducer.specs.Limits.{mostStates}
 use Rattle.transducer.specs.Valid.{validOf}
 use Rattle.transducer.specs.Useful.{UsefulPair}
 use Rattle.transducer.specs.declared.Transducer.{Transducer}
-use Rattle.pairsearch.specs.Numbers.{mostPairs, pairOf}
+use Rattle.product.specs.Numbers.{mostPairs, pairOf}
 use Rattle.pairs.specs.declared.Outcome.{Outcome}
 use Rattle.pairs.specs.declared.Outcome.the-variants.{Found, Invalid}
 use Rattle.pairs.specs.declared.PairSet.{PairSet}

@@ -2,6 +2,7 @@
 -- between the two; 0 where the way ends.
 use mathlib.Core.Bool.{cond}
 use mathlib.Core.Path.{_≡_}
+use mathlib.Core.Bool.{Bool, false}
 use mathlib.Core.List.{List}
 use mathlib.Core.Logic.{_↔_, _≢_}
 use Prim.Native.Nat.{ℕ, suc, _+_, _-_, _≤_, _<_}
@@ -12,7 +13,7 @@ use Rattle.worklist.specs.Search.{Grown}
 use Rattle.transducer.specs.Useful.{UsefulPair}
 use Rattle.transducer.specs.declared.StateSet.{StateSet}
 use Rattle.transducer.specs.declared.Transducer.{Transducer}
-use Rattle.pairsearch.specs.Numbers.{mostPairs, firstOf, secondOf, PairIn, Moves}
+use Rattle.product.specs.Numbers.{mostPairs, firstOf, secondOf, PairIn, Moves}
 use Rattle.pairs.specs.UsefulPairs.{UsefulPairsOf}
 use Rattle.pairs.specs.declared.UsefulPairs.{UsefulPairs}
 
@@ -24,7 +25,7 @@ Useful t v = UsefulPair t (firstOf v) (secondOf v)
 abbrev pub MovesBack : Transducer → ℕ → ℕ → ℕ → Type 0
 MovesBack t u k v = Moves t v k u
 
--- ---- what the contract of `ways` says
+-- ---- what the contracts of `ways_out` and `ways_in` say
 
 -- ways along links from the useful pairs to the pairs of two states of `ends`, where `Leads j k v` says that the step with the label k lies
 -- between j and v
@@ -32,7 +33,7 @@ module _ (t : Transducer) (ends : StateSet) (Leads : ℕ → ℕ → ℕ → Typ
   -- where the way from v goes, `depth` being how many steps each way has
   pub data Link (depth : ℕ → ℕ) (v : ℕ) : Type 0 where
     -- nowhere: v is a pair of `ends`
-    stops : getD link v 0 ≡ 0 → PairIn ends v → depth v ≡ 0 → Link depth v
+    stops : getD link v 0 ≡ 0 → PairIn ends ends v → depth v ≡ 0 → Link depth v
     -- to the useful pair j
     goes : (j : ℕ) → getD link v 0 ≡ j + 1 → Useful t j → Leads j (getD step v 0) v → depth v ≡ suc (depth j) → Link depth v
 
@@ -40,14 +41,17 @@ module _ (t : Transducer) (ends : StateSet) (Leads : ℕ → ℕ → ℕ → Typ
   pub record Way (u : ℕ) : Type 0 where
     pub depth : ℕ → ℕ
     pub linked : (v : ℕ) → Useful t v → Link depth v
-    pub at-end : (v : ℕ) → Useful t v → PairIn ends v → (getD link v 0 ≡ 0) × (depth v ≡ 0)
+    pub at-end : (v : ℕ) → Useful t v → PairIn ends ends v → (getD link v 0 ≡ 0) × (depth v ≡ 0)
     pub short : (v : ℕ) → Useful t v → depth v < u
 
--- the useful pairs, and for each a way in, backwards from it to two start states, and a way out, to two final states
-pub record Ways (t : Transducer) (r : UsefulPairs) (into into-step out out-step : List ℕ) : Type 0 where
+-- the useful pairs, and for each a way out, to two final states
+pub record WaysOut (t : Transducer) (r : UsefulPairs) (out out-step : List ℕ) : Type 0 where
   pub pairs : UsefulPairsOf t r
-  pub way-in : Way t (t .starts) (Moves t) into into-step (r .count)
   pub way-out : Way t (t .finals) (MovesBack t) out out-step (r .count)
+
+-- for each useful pair a way in, backwards from it to two start states; u is how many there are
+abbrev pub WayIn : Transducer → ℕ → List ℕ → List ℕ → Type 0
+WayIn t u into into-step = Way t (t .starts) (Moves t) into into-step u
 
 -- ---- what a search leaves from which such ways are read off
 
@@ -56,10 +60,10 @@ module _ (t : Transducer) (ends : StateSet) (Leads : ℕ → ℕ → ℕ → Typ
   -- a step between u, found before, and v, no pair of `ends`
   pub record Later (u k v : ℕ) : Type 0 where
     pub leads : Leads u k v
-    pub no-end : PairIn ends v → ⊥
+    pub no-end : PairIn ends ends v → ⊥
 
   pub record Tree (s : Worklist) : Type 0 where
-    pub grown : Grown (PairIn ends) Later mostPairs s
+    pub grown : Grown (PairIn ends ends) Later mostPairs s
     pub found : (v : ℕ) → Found s v ↔ Useful t v
 
 -- ---- from the lists of a search to links
@@ -82,3 +86,10 @@ pub record Traced (order parent via : List ℕ) (count : ℕ) : Type 0 where
 pub record Linked (order parent via link step : List ℕ) (bound : ℕ) : Type 0 where
   pub links : (i : ℕ) → i < bound → getD link (getD order i 0) 0 ≡ linkOf order (getD parent i 0)
   pub steps : (i : ℕ) → i < bound → getD step (getD order i 0) 0 ≡ getD via i 0
+
+-- ---- from a set of pairs to the list by which a search is confined
+
+-- the numbers of the pairs in the set are not 0, and those of the others are
+pub record Marked (member : List Bool) (numbers : List ℕ) (bound : ℕ) : Type 0 where
+  pub long : length numbers ≡ mostPairs
+  pub in-set : (v : ℕ) → v < bound → getD numbers v 0 ≡ cond (getD member v false) 1 0

@@ -1,18 +1,22 @@
 // Useful pairs of states (document 01, "Useful states and useful pairs"), and the ways into and out of them. The contracts cite
-// specs/UsefulPairs.antt: `UsefulPairsOf`, what `useful_pairs` answers; and specs/Ways.antt: `Ways`, what `ways` leaves.
+// specs/UsefulPairs.antt: `UsefulPairsOf`, what `useful_pairs` answers; and specs/Ways.antt: `WaysOut` and `WayIn`, what `ways_out` and `ways_in` leave.
+ghost use mathlib.Core.Bool.{false, cond};
 ghost use mathlib.Core.Path.{_≡_};
 ghost use Prim.Native.Nat.{_-_, _≤_, _<_};
 ghost use lib.ListN.{length, getD};
 ghost use Rattle.worklist.specs.Lists.{lists};
 ghost use Rattle.worklist.specs.Search.{Blank};
 ghost use Rattle.transducer.specs.Valid.{Valid};
-ghost use Rattle.pairsearch.specs.Numbers.{mostPairs};
+ghost use Rattle.product.specs.Machine.{ImageOf};
+ghost use Rattle.product.specs.Numbers.{mostPairs};
 ghost use Rattle.pairs.specs.UsefulPairs.{hasPair, noPairs, pairsOf, UsefulPairsOf};
-ghost use Rattle.pairs.specs.Ways.{MovesBack, Tree, Ways, linkOf, Traced, Linked};
-use pairsearch::PAIRS;
+ghost use Rattle.pairs.specs.Ways.{MovesBack, Tree, WaysOut, WayIn, linkOf, Traced, Linked, Marked};
+use product::machine;
+use product::machine::PLACES;
+use product::search;
+use product::steps::PAIRS;
 use transducer::Transducer;
 use transducer::limits;
-use transducer::reversal;
 use transducer::validity;
 
 // A set of pairs: member[32 p + q] says whether (p, q) is in it.
@@ -70,11 +74,28 @@ pub fn useful_pairs(t: Transducer) -> UsefulPairs
             count: 0,
         };
     }
+    let mut m = [0u16; PLACES];
+    machine::by_input(t, &mut m);
+    let mut out = [0u16; PAIRS];
+    let mut out_step = [0u32; PAIRS];
+    ways_out(t, &m, &mut out, &mut out_step)
+}
+
+// The useful pairs of t, which keeps the rules and whose machine is m, and for each a way out, as links: at a useful pair i, out[i] is 0 where i is a
+// pair of final states, else 1 + the pair after it, and out_step[i] the label of the step from i to there.
+pub fn ways_out(t: Transducer, m: &[u16], out: &mut [u16], out_step: &mut [u32]) -> UsefulPairs
+    requires { ⌜ Valid t ⌝ }
+    requires { ⌜ ImageOf t false (now m) ⌝ }
+    requires { ⌜ length (now out) ≡ mostPairs ⌝ }
+    requires { ⌜ length (now «out_step») ≡ mostPairs ⌝ }
+    ensures { λ r. ⌜ WaysOut t r (now (out .exit)) (now («out_step» .exit)) ⌝ }
+{
     let mut order = [0u32; PAIRS];
     let mut rank = [0u32; PAIRS];
     let mut parent = [0u32; PAIRS];
     let mut via = [0u32; PAIRS];
-    let count = search_back(t, &mut order, &mut rank, &mut parent, &mut via);
+    let count = search_back(t, m, &mut order, &mut rank, &mut parent, &mut via);
+    links(&order, &parent, &via, count, out, out_step);
     let set = found(&rank);
     UsefulPairs {
         outcome: Outcome::Found,
@@ -83,39 +104,62 @@ pub fn useful_pairs(t: Transducer) -> UsefulPairs
     }
 }
 
-// The useful pairs of t, which keeps the rules, and for each a way in and a way out, as links. At a useful pair i: into[i] is 0 where i is a pair of
-// start states, else 1 + the pair before it, and into_step[i] the label of the step from there to i; out[i] is 0 where i is a pair of final states,
-// else 1 + the pair after it, and out_step[i] the label of the step from i to there. The ways in come from a third search, which is confined to the
-// useful pairs.
-pub fn ways(
+// For each useful pair of t, those that `ways_out` has found, a way in, as links: at a useful pair i, into[i] is 0 where i is a pair of start states,
+// else 1 + the pair before it, and into_step[i] the label of the step from there to i. The search is confined to the useful pairs.
+pub fn ways_in(
     t: Transducer,
+    m: &[u16],
+    pairs: UsefulPairs,
     into: &mut [u16],
     into_step: &mut [u32],
-    out: &mut [u16],
-    out_step: &mut [u32],
-) -> UsefulPairs
+)
     requires { ⌜ Valid t ⌝ }
+    requires { ⌜ ImageOf t false (now m) ⌝ }
+    requires { ⌜ UsefulPairsOf t pairs ⌝ }
     requires { ⌜ length (now into) ≡ mostPairs ⌝ }
     requires { ⌜ length (now «into_step») ≡ mostPairs ⌝ }
-    requires { ⌜ length (now out) ≡ mostPairs ⌝ }
-    requires { ⌜ length (now «out_step») ≡ mostPairs ⌝ }
-    ensures { λ r. ⌜ Ways t r (now (into .exit)) (now («into_step» .exit)) (now (out .exit)) (now («out_step» .exit)) ⌝ }
+    ensures { λ _. ⌜ WayIn t (pairs .count) (now (into .exit)) (now («into_step» .exit)) ⌝ }
 {
     let mut order = [0u32; PAIRS];
     let mut rank = [0u32; PAIRS];
     let mut parent = [0u32; PAIRS];
     let mut via = [0u32; PAIRS];
-    let count = search_back(t, &mut order, &mut rank, &mut parent, &mut via);
-    let set = found(&rank);
-    links(&order, &parent, &via, count, out, out_step);
-    let mut again = [0u32; PAIRS];
-    let n = pairsearch::search(t, &rank, &mut order, &mut again, &mut parent, &mut via);
+    let mut allowed = [0u32; PAIRS];
+    let set = pairs.set;
+    mark(set, &mut allowed);
+    let starts = t.starts;
+    let n = search::search(
+        m,
+        m,
+        starts,
+        starts,
+        &allowed,
+        &mut order,
+        &mut rank,
+        &mut parent,
+        &mut via,
+    );
     links(&order, &parent, &via, n, into, into_step);
-    UsefulPairs {
-        outcome: Outcome::Found,
-        set,
-        count: count as u16,
+}
+
+// Writes 1 for each pair in the set, 0 for each other.
+fn mark(set: PairSet, numbers: &mut [u32])
+    requires { ⌜ length (now numbers) ≡ mostPairs ⌝ }
+    ensures { λ _. ⌜ Marked (set .member) (now (numbers .exit)) mostPairs ⌝ }
+{
+    for v in 0..PAIRS {
+        numbers[v] = one_if(set.member[v]);
     }
+}
+
+// 1 where the test holds, else 0.
+fn one_if(test: bool) -> u32
+    ensures { λ r. ⌜ r ≡ cond test 1 0 ⌝ }
+{
+    if test {
+        return 1;
+    }
+    0
 }
 
 // Writes the links of the `count` pairs that a search has found: for the pair at each place, 1 + the pair at its parent's place, or 0 for a root;
@@ -152,20 +196,35 @@ fn link_to(order: &[u32], from: u32) -> u16
 // states over the reversed transducer, confined to what the first has found. What it leaves is the second's.
 fn search_back(
     t: Transducer,
+    m: &[u16],
     order: &mut [u32],
     rank: &mut [u32],
     parent: &mut [u32],
     via: &mut [u32],
 ) -> u32
     requires { ⌜ Valid t ⌝ }
+    requires { ⌜ ImageOf t false (now m) ⌝ }
     requires { ⌜ Blank mostPairs (lists (now order) (now rank) (now parent) (now via) 0) ⌝ }
     ensures { λ n. ⌜ Tree t (t .finals) (MovesBack t) (lists (now (order .exit)) (now (rank .exit)) (now (parent .exit)) (now (via .exit)) n) ⌝ }
 {
     let all = [1u32; PAIRS];
     let mut reached = [0u32; PAIRS];
-    pairsearch::search(t, &all, order, &mut reached, parent, via);
-    let back = reversal::reversed(t);
-    pairsearch::search(back, &reached, order, rank, parent, via)
+    let starts = t.starts;
+    search::search(m, m, starts, starts, &all, order, &mut reached, parent, via);
+    let mut back = [0u16; PLACES];
+    machine::by_input_reversed(t, &mut back);
+    let finals = t.finals;
+    search::search(
+        &back,
+        &back,
+        finals,
+        finals,
+        &reached,
+        order,
+        rank,
+        parent,
+        via,
+    )
 }
 
 // The pairs that a search has found: those whose rank is not 0.

@@ -28,8 +28,8 @@ use Rattle.tablefile.specs.RoundTrips.{WritesFile}
 use Rattle.tablefile.proofs.RoundTrips.{round-trips}
 use Rattle.useful.specs.UsefulStates.{UsefulStatesOf}
 use Rattle.useful.specs.declared.UsefulStates.{UsefulStates}
-use Rattle.pairsearch.specs.Numbers as pair
-use Rattle.pairsearch.specs.Numbers.{mostPairs}
+use Rattle.product.specs.Numbers as pair
+use Rattle.product.specs.Numbers.{mostPairs}
 use Rattle.pairs.specs.UsefulPairs.{UsefulPairsOf}
 use Rattle.pairs.specs.declared.UsefulPairs.{UsefulPairs}
 use Rattle.pairs.proofs.PairSetLaws.{pair-flag}

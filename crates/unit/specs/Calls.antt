@@ -12,8 +12,8 @@ use Rattle.transducer.specs.Limits.{mostStates}
 use Rattle.transducer.specs.Useful.{UsefulState, UsefulPair}
 use Rattle.tablereader.specs.Record.{firstOf}
 use Rattle.tablewriter.specs.Writing.{tooShort}
-use Rattle.pairsearch.specs.Numbers as pair
-use Rattle.pairsearch.specs.Numbers.{mostPairs}
+use Rattle.product.specs.Numbers as pair
+use Rattle.product.specs.Numbers.{mostPairs}
 use Rattle.witness.specs.Showing.{Buffers}
 use Rattle.functionality.specs.Decided.{fullOf, UsefulCount}
 use Rattle.engine.specs.Engine.{tableOf, Judged, FileTranslated}

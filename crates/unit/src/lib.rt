@@ -5,7 +5,7 @@ ghost use mathlib.Core.Path.{_≡_};
 ghost use Rattle.witness.specs.Showing.{buffersOf};
 ghost use Rattle.answers.specs.Answers.{fileCode};
 ghost use Rattle.unit.specs.Calls.{VerdictGiven, TranslationGiven, StatesGiven, PairsGiven, DifferenceGiven, FileGiven};
-use pairsearch::PAIRS;
+use product::steps::PAIRS;
 use transducer::limits;
 
 // Reads a table file, and returns its refusal, or 0 where it is taken.

@@ -12,7 +12,7 @@ use lib.ListN.{length, getD, drop, set, length-set, length-map, drop-of-length-l
 use lib.Seq.{sets, sets-eq, drop-cons}
 use Rattle.transducer.specs.Walks.{both, left, right, leftIn, rightIn}
 use Rattle.transducer.proofs.SizeLaws.{length-sides}
-use Rattle.pairsearch.specs.Numbers.{noTransition, sides, labelOf, stepOf}
+use Rattle.product.specs.Numbers.{noTransition, sides, labelOf, stepOf}
 use Rattle.words.specs.Put.{put}
 use Rattle.witness.specs.Walk.{walkOf}
 use Rattle.witness.specs.Sides.{Labels, takenOf, sideOf, Front}
@@ -33,7 +33,7 @@ step-takes k h = go (eqb (k / sides) noTransition) (eqb (k % sides) noTransition
     go false false e d = (refl, refl)
 
 -- a side begins with what its first label takes
-side-cons : (r : Bool) (k : ℕ) (labels : List ℕ) → k < labelOf noTransition noTransition
+pub side-cons : (r : Bool) (k : ℕ) (labels : List ℕ) → k < labelOf noTransition noTransition
     → sideOf r (walkOf (k ∷ labels)) ≡ cond (eqb (takenOf r k) noTransition) [] (takenOf r k ∷ []) ++ sideOf r (walkOf labels)
 side-cons true k labels h = rw (step-takes k h .1)
 side-cons false k labels h = rw (step-takes k h .0)

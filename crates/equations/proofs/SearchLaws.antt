@@ -1,0 +1,217 @@
+-- What the tests at the useful pairs say of the transducer: if all pass it is functional, and where one fails the two sides of a walk write
+-- different words. Assumes nothing.
+use mathlib.Core.Path.{_≡_, refl, sym, ap, _∙_}
+use mathlib.Core.List.{List}
+use mathlib.Core.Bool.{Bool, true, false}
+use mathlib.Core.Logic.{_≢_}
+use Prim.Native.Nat.{ℕ, zero, suc, _*_, _≤_, _<_}
+use native.Mathlib.Omega.{arith}
+use borrow.Author.Tests.{lt-ltb}
+use lib.ListN.{length, getD, replicate}
+use Rattle.transducer.specs.Limits.{mostStates}
+use Rattle.transducer.specs.StateSet.{In}
+use Rattle.transducer.specs.Transition.{bytesOf}
+use Rattle.transducer.specs.Valid.{Valid}
+use Rattle.transducer.specs.Paths.{Functional}
+use Rattle.transducer.specs.Useful.{UsefulPair}
+use Rattle.transducer.specs.Walks.{Step, both, left, right, Move}
+use Rattle.transducer.specs.declared.Transducer.{Transducer}
+use Rattle.transducer.proofs.Facts.{valid-exactly}
+use Rattle.product.specs.Numbers.{mostPairs, pairOf, firstOf, secondOf, noTransition, sides, labelOf, stepOf, Moves}
+use Rattle.product.specs.Machine.{ImageOf}
+use Rattle.product.proofs.ImageLaws.{steps-move, move-steps}
+use Rattle.product.proofs.StepLaws.{target-low}
+use Rattle.product.proofs.LabelLaws.{edge-number, label-low}
+use Rattle.product.proofs.LabelLaws.{both-label, left-label, right-label}
+use Rattle.pairs.specs.UsefulPairs.{hasPair}
+use Rattle.pairs.specs.Ways.{Useful}
+use Rattle.pairs.specs.declared.UsefulPairs.{UsefulPairs}
+use Rattle.witness.specs.Walk.{walkOf}
+use Rattle.witness.proofs.Fronts.{same-bytes}
+use Rattle.delays.specs.Outputs.{OutputsOf}
+use Rattle.delays.specs.WaysOut.{level, Lists, Led, wordOut, Gaps, Grounds}
+use Rattle.delays.specs.Needs.{StepHolds}
+use Rattle.delays.proofs.WayOutLaws.{word-short}
+use Rattle.equations.specs.Links.{wayIn, wayOut}
+use Rattle.equations.specs.Tests.{Links, Standing, Ready, StartPasses, RoundPasses, StepPasses, Differing, Measured, PairPasses, Broken}
+use Rattle.equations.specs.declared.Failure.{Failure}
+use Rattle.equations.proofs.Equations as equations
+use Rattle.equations.proofs.OutWords.{way-led, word-is, right-needs, left-needs, equation-exactly}
+use Rattle.equations.proofs.WayLaws.{walk-append, way-follows, useful-low, few-useful, numbered, numbered-useful, outWalk, out-done}
+
+-- the label of a step
+record LabelOf (e : Step) : Type 0 where
+  label : ℕ
+  low : label < sides * sides
+  is : stepOf label ≡ e
+
+-- each step that leads from a pair to a pair has one
+label-of : {t : Transducer} → Valid t → (p q p′ q′ : ℕ) (e : Step) → Move t p q e p′ q′ → LabelOf e
+label-of valid p q p′ q′ (both l m) move =
+    let h = edge-number valid (move .0) in
+    let h′ = edge-number valid (move .1) in
+    record { label = labelOf l m; low = omega arith; is = both-label l m h h′ }
+label-of valid p q p′ q′ (left l) move =
+    let h = edge-number valid (move .0) in
+    record { label = labelOf l noTransition; low = omega arith; is = left-label l h }
+label-of valid p q p′ q′ (right m) move =
+    let h = edge-number valid (move .1) in
+    record { label = labelOf noTransition m; low = omega arith; is = right-label m h }
+
+-- a list of zeros
+pub zeros : (n v : ℕ) → _≡_ {A = ℕ} (getD (replicate n 0) v 0) 0
+zeros zero v = refl
+zeros (suc n) zero = refl
+zeros (suc n) (suc v) = zeros n v
+
+-- what the tests are of: the lists are those of the transducer, and the pairs that count are the useful ones
+pub record Meant (t : Transducer) (m written out out-step gap : List ℕ) : Type 0 where
+  pub image : ImageOf t false m
+  pub outputs : OutputsOf t written
+  pub grounds : Grounds written out out-step gap
+  pub useful : (v : ℕ) → v < mostPairs → getD gap v 0 ≢ 0 → Useful t v
+  pub known : (v : ℕ) → Useful t v → getD gap v 0 ≢ 0
+
+pub measured : {t : Transducer} {m written out out-step gap : List ℕ} → Meant t m written out out-step gap → Measured m written out out-step gap
+measured s = record { machine = s .image .machine; grounds = s .grounds }
+
+module _ {t : Transducer} {r : UsefulPairs} {out out-step : List ℕ} (ready : Standing t r out out-step) where
+  pub valid : Valid t
+  valid = valid-exactly t .0 (ready .valid)
+
+  few : r .count ≤ mostPairs
+  few = few-useful (ready .valid) (ready .ways)
+
+  low : (v : ℕ) → Useful t v → v < mostPairs
+  low = useful-low (ready .valid) (ready .ways)
+
+  pub led-out : (v : ℕ) → Useful t v → Led out out-step v
+  led-out = way-led valid few low (ready .ways .way-out)
+
+  -- ---- the members of the set are the useful pairs
+
+  has-is : (v : ℕ) → v < mostPairs → (hasPair (r .set) (firstOf v) (secondOf v) ≡ true → getD (r .set .member) v false ≡ true)
+      × (getD (r .set .member) v false ≡ true → hasPair (r .set) (firstOf v) (secondOf v) ≡ true)
+  unfolding hasPair
+  has-is v h =
+      let n : pairOf (firstOf v) (secondOf v) ≡ v = omega arith in
+      let a = lt-ltb (firstOf v) mostStates (omega arith) in
+      let b = lt-ltb (secondOf v) mostStates (omega arith) in
+      rw (n, a, b) (λ e. e, λ e. e)
+
+  pub member-useful : (v : ℕ) → v < mostPairs → getD (r .set .member) v false ≡ true → Useful t v
+  member-useful v h e = ready .ways .pairs .members (ready .valid) (firstOf v) (secondOf v) .0 (has-is v h .1 e)
+
+  useful-member : (v : ℕ) → Useful t v → getD (r .set .member) v false ≡ true
+  useful-member v u = has-is v (low v u) .0 (ready .ways .pairs .members (ready .valid) (firstOf v) (secondOf v) .1 u)
+
+  -- what the tests rely on
+  module _ {m written gap : List ℕ} (image : ImageOf t false m) (o : OutputsOf t written) (long : length gap ≡ mostPairs)
+      (g : Gaps written out out-step (r .set .member) gap mostPairs) where
+    inside : (v : ℕ) → v < mostPairs → getD gap v 0 ≢ 0 → getD (r .set .member) v false ≡ true
+    inside v h n = go (getD (r .set .member) v false) refl
+      where
+        go : (b : Bool) → getD (r .set .member) v false ≡ b → b ≡ true
+        go true e = refl
+        go false e = absurd (n (g .outside v h e))
+
+    pub meant : Meant t m written out out-step gap
+    meant =
+        let lists : Lists written out out-step = record { outputs = o .outputs; long-link = ready .long-out; long-label = ready .long-out-step } in
+        record {
+          image = image;
+          outputs = o;
+          grounds =
+              record {
+                lists = lists;
+                long-gap = long;
+                ways = λ v h n. led-out v (member-useful v h (inside v h n));
+                gaps = λ v h n. g .inside v h (inside v h n);
+              };
+          useful = λ v h n. member-useful v h (inside v h n);
+          known = λ v u z. omega (arith, g .inside v (low v u) (useful-member v u) .balance, word-short lists false (led-out v u));
+        }
+
+  -- ---- where all pass
+
+  module _ {m written gap : List ℕ} (s : Meant t m written out out-step gap)
+      (pass : (i : ℕ) → i < mostPairs → getD gap i 0 ≢ 0 → PairPasses (t .starts) m written out out-step gap i) where
+    at-pair : (p q : ℕ) → UsefulPair t p q → PairPasses (t .starts) m written out out-step gap (pairOf p q)
+    at-pair p q h =
+        let u = numbered-useful (ready .valid) (ready .ways) p q h in
+        pass (pairOf p q) (low (pairOf p q) u) (s .known (pairOf p q) u)
+
+    starts-pass : (p q : ℕ) → UsefulPair t p q → In (t .starts) p → In (t .starts) q
+        → equations.left t (outWalk (ready .valid) (ready .ways) p q) ≡ equations.right t (outWalk (ready .valid) (ready .ways) p q)
+    starts-pass p q h a a′ =
+        let n = numbered (ready .valid) (ready .ways) p q h in
+        let u = numbered-useful (ready .valid) (ready .ways) p q h in
+        let w = ready .ways .way-out in
+        same-bytes _ _
+        (sym (left-needs valid few low w (s .outputs) (pairOf p q) u)
+        ∙ at-pair p q h .start (record { first = rw (n .0) a; second = rw (n .1) a′ })
+        ∙ right-needs valid few low w (s .outputs) (pairOf p q) u)
+
+    steps-pass : (p q p′ q′ : ℕ) (e : Step) → UsefulPair t p q → UsefulPair t p′ q′ → Move t p q e p′ q′
+        → equations.Holds t (outWalk (ready .valid) (ready .ways) p q) e (outWalk (ready .valid) (ready .ways) p′ q′)
+    steps-pass p q p′ q′ e h h′ move =
+        let n = numbered (ready .valid) (ready .ways) p q h in
+        let n′ = numbered (ready .valid) (ready .ways) p′ q′ h′ in
+        let u = numbered-useful (ready .valid) (ready .ways) p q h in
+        let u′ = numbered-useful (ready .valid) (ready .ways) p′ q′ h′ in
+        let l = label-of valid p q p′ q′ e move in
+        let moves : Moves t (pairOf p q) (l .label) (pairOf p′ q′) = rw (l .is, n .0, n .1, n′ .0, n′ .1) move in
+        let z = move-steps (s .image) (pairOf p′ q′) moves in
+        let holds = at-pair p q h .steps .pass (l .label) (pairOf p′ q′) (l .low) (z .steps) (z .target) (s .known (pairOf p′ q′) u′) in
+        rw (l .is) at
+        (equation-exactly valid few low (ready .ways .way-out) (s .outputs) (pairOf p q) (l .label) (pairOf p′ q′) u u′
+        (label-low valid (pairOf p q) (l .label) (pairOf p′ q′) moves) .0 holds)
+
+    pub all-pass : Functional t
+    all-pass = equations.functional t (outWalk (ready .valid) (ready .ways)) (out-done (ready .valid) (ready .ways)) starts-pass steps-pass
+
+-- ---- where a test fails
+
+module _ {t : Transducer} {r : UsefulPairs} {k : Links} {steps : List ℕ} (ready : Ready t r k steps)
+    {m written gap : List ℕ} (s : Meant t m written (k .out) (k .out-step) gap) where
+  -- at a pair of start states
+  uneven-differs : (v : ℕ) → Useful t v → getD gap v 0 ≢ level → StartPasses t k v → ⊥
+  uneven-differs v u n p =
+      let y = ready .standing in
+      let same = p _ (way-follows (few y) (low y) (y .ways .way-out) v u) in
+      let w = word-is (valid y) (few y) (low y) (y .ways .way-out) (s .outputs) in
+      let e : length (wordOut written (k .out) (k .out-step) false v) ≡ length (wordOut written (k .out) (k .out-step) true v) =
+      ap length (w false v u ∙ ap bytesOf same ∙ sym (w true v u)) in
+      n (omega (arith, s .grounds .gaps v (low y v u) (s .known v u) .balance))
+
+  -- at a step
+  equation-differs : (i label j : ℕ) → Useful t i → Useful t j → Moves t i label j → (StepHolds written (k .out) (k .out-step) i label j → ⊥)
+      → RoundPasses t k i → StepPasses t k i label j → ⊥
+  equation-differs i label j u u′ move fails round step =
+      let y = ready .standing in
+      let into = way-follows (few y) (low y) (ready .way-in) i u in
+      let out = way-follows (few y) (low y) (y .ways .way-out) i u in
+      let out′ = way-follows (few y) (low y) (y .ways .way-out) j u′ in
+      let a = rw walk-append at (round _ _ into out) in
+      let b = rw walk-append at (step _ _ into out′) in
+      let front = walkOf (wayIn (k .into) (k .into-step) (ready .way-in .depth i) i) in
+      let x = walkOf (wayOut (k .out) (k .out-step) (y .ways .way-out .depth i) i) in
+      let x′ = walkOf (wayOut (k .out) (k .out-step) (y .ways .way-out .depth j) j) in
+      let h = equations.holds t front x x′ (stepOf label) a b in
+      fails
+      (equation-exactly (valid y) (few y) (low y) (y .ways .way-out) (s .outputs) i label j u u′
+      (label-low (valid y) i label j move) .1 h)
+
+  pub differing : (f : Failure) → Broken (t .starts) m written (k .out) (k .out-step) gap (f .from) (f .label) (f .to) → Differing t k f
+  differing f b =
+      let u = s .useful (f .from) (b .inside) (b .marked) in
+      record {
+        useful = u;
+        start = λ e. let z = b .start e in (z .0, uneven-differs (f .from) u (z .1));
+        step = λ n.
+            let z = b .step n in
+            let move = steps-move (s .image) (z .step) (z .target) in
+            let j-low : f .to < mostPairs = rw (z .target) at (target-low (s .image .machine) (s .image .machine) (b .inside) (z .step)) in
+            let u′ = s .useful (f .to) j-low (z .marked) in
+            (u′, move, equation-differs (f .from) (f .label) (f .to) u u′ move (z .fails));
+      }

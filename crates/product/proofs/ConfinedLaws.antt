@@ -1,0 +1,109 @@
+-- Laws of the confined search: how the loops over the pairs and over the labels go on when a node is offered. A node that is not allowed is
+-- passed; one at which the search begins is found already. Assumes nothing.
+use mathlib.Core.Path.{_≡_, refl, ap, _∙_, subst}
+use mathlib.Core.Bool.{Bool, true, false, _&&_, cond}
+use mathlib.Core.List.{List}
+use Prim.Native.Nat.{ℕ, _+_, _≤_, _<_}
+use native.Mathlib.Decide.{decLt}
+use native.Mathlib.Omega.{arith}
+use borrow.Author.Tests.{ne-eqb, eqb-true, eqb-false}
+use lib.Dec.{eqb}
+use lib.ListN.{length, getD, length-replicate}
+use Rattle.worklist.specs.Lists.{Worklist, Found, added, visited}
+use Rattle.worklist.specs.Search.{Blank, Rooted, Scanned, Expanded}
+use Rattle.worklist.proofs.Findings.{Lengths}
+use Rattle.worklist.proofs.Stages.{rooted-skip, rooted-visit, scanned-skip, scanned-visit, expanded}
+use Rattle.transducer.proofs.Bools.{and-both}
+use Rattle.transducer.proofs.Facts.{in-below}
+use Rattle.transducer.specs.declared.StateSet.{StateSet}
+use Rattle.product.specs.Numbers.{mostPairs, noStep, PairIn}
+use Rattle.product.specs.Steps.{Steps, targetOf, First}
+use Rattle.product.specs.Confined.{Allowed, offered, Begins, Goes, Ready}
+use Rattle.product.proofs.StepLaws.{step-low, target-low}
+
+-- two tests that hold do not fail together
+pub not-both : {a b : Bool} → a ≡ true → b ≡ true → (a && b) ≡ false → ⊥
+not-both p q r = let e = and-both p q in let z : _≡_ {A = ℕ} 0 1 = cc in omega arith
+
+-- before a search too the lists have 1,024 elements each
+pub blank-lengths : {s : Worklist} → Blank mostPairs s → Lengths mostPairs s
+blank-lengths b =
+    record { order = b .order; rank = ap length (b .rank) ∙ length-replicate {A = ℕ} mostPairs 0; parent = b .parent; via = b .via }
+
+-- in the loop over the steps of the pair at the place `head`: those with a label below `label` lead to pairs found
+abbrev pub Scan : StateSet → StateSet → List ℕ → List ℕ → List ℕ → Worklist → Worklist → ℕ → ℕ → Type 0
+Scan starts starts′ allowed left right s₀ s head label =
+    Scanned (Begins starts starts′ allowed) (Goes starts starts′ allowed left right) mostPairs s₀ s head 0 label
+
+module _ {starts starts′ : StateSet} {allowed : List ℕ} where
+  -- the search begins at pairs
+  pub begins-low : {v : ℕ} → Begins starts starts′ allowed v → v < mostPairs
+  begins-low b = omega (arith, in-below _ _ (b .start-pair .first))
+
+  -- the loop over the pairs offers a pair of start states
+  pub rooted-offer : {s s′ : Worklist} {node : ℕ} → Rooted (Begins starts starts′ allowed) mostPairs s node → node < mostPairs
+      → PairIn starts starts′ node → s′ ≡ offered allowed s node 0 0 → Rooted (Begins starts starts′ allowed) mostPairs s′ (node + 1)
+  rooted-offer {s} {s′} {node} r h p e = go (eqb (getD allowed node 0) 0) refl e
+    where
+      go : (b : Bool) → eqb (getD allowed node 0) 0 ≡ b → s′ ≡ cond b s (visited s node 0 0)
+          → Rooted (Begins starts starts′ allowed) mostPairs s′ (node + 1)
+      go true d e = rw e (rooted-skip r (λ z. omega (arith, z .inside, eqb-true (getD allowed node 0) 0 d)))
+      go false d e = rooted-visit 0 r h (record { start-pair = p; inside = omega (arith, eqb-false (getD allowed node 0) 0 d) }) e
+
+  module _ {left right : List ℕ} where
+    -- it passes the labels before that of the first step
+    pub scanned-first : {s₀ s : Worklist} {head label r : ℕ} → Scan starts starts′ allowed left right s₀ s head label
+        → First left right (getD (s₀ .order) head 0) label noStep r → Scan starts starts′ allowed left right s₀ s head r
+    scanned-first {label = label} x f = scanned-skip x (λ k v a b g. f .least k a (omega (arith, f .most)) b (g .steps))
+
+    module _ {s₀ s : Worklist} {head label : ℕ} (r : Ready starts starts′ allowed left right s₀ head) (x : Scan starts starts′ allowed left right s₀ s head label) where
+      -- it passes a step that leads to a node that is found
+      scanned-found : {node : ℕ} → targetOf left right (getD (s₀ .order) head 0) label ≡ node → Found s node → Scan starts starts′ allowed left right s₀ s head (label + 1)
+      scanned-found {node} t f =
+          record { grown = x .grown; extends = x .extends; done = λ l v hl hh g. go l v hl hh g (decLt l label) }
+        where
+          go : (l v : ℕ) → 0 ≤ l → l < label + 1 → Goes starts starts′ allowed left right (getD (s₀ .order) head 0) l v → Dec (l < label) → Found s v
+          go l v hl hh g (yes b) = x .done l v hl b g
+          go l v hl hh g (no b) =
+              let same : l ≡ label = omega arith in
+              subst (Found s) (ap-target same (g .target)) f
+            where
+              ap-target : l ≡ label → targetOf left right (getD (s₀ .order) head 0) l ≡ v → node ≡ v
+              ap-target same e = rw (← t, ← same) e
+
+      -- it offers the node to which the step leads
+      pub scanned-offer : {s′ : Worklist} {node : ℕ} → Steps left right (getD (s₀ .order) head 0) label
+          → targetOf left right (getD (s₀ .order) head 0) label ≡ node
+          → s′ ≡ offered allowed s node (head + 1) label → Scan starts starts′ allowed left right s₀ s′ head (label + 1)
+      scanned-offer {s′} {node} step t e = go (eqb (getD allowed node 0) 0) refl e (decLt 0 (getD (s .rank) node 0))
+        where
+          low : node < mostPairs
+          low = rw t at (target-low (r .lent .left-machine) (r .lent .right-machine) (r .grown .below head (r .place)) step)
+
+          only : (v : ℕ) → Goes starts starts′ allowed left right (getD (s₀ .order) head 0) label v → node ≡ v
+          only v g = rw t at (g .target)
+
+          go : (b : Bool) → eqb (getD allowed node 0) 0 ≡ b → s′ ≡ cond b s (visited s node (head + 1) label) → Dec (Found s node)
+              → Scan starts starts′ allowed left right s₀ s′ head (label + 1)
+          go true d e _ =
+              rw e
+              (scanned-skip x
+              (λ l v hl hh g.
+              let same : l ≡ label = omega arith in
+              omega (arith, ap (λ n. getD allowed n 0) (only v (rw same at g)), g .inside, eqb-true (getD allowed node 0) 0 d)))
+          go false d e (yes f) =
+              rw (e ∙ ap (λ b. cond b (added s node (head + 1) label) s) (ne-eqb (getD (s .rank) node 0) 0 (λ z. omega arith))) (scanned-found t f)
+          go false d e (no f) =
+              let inside : Allowed allowed node = omega (arith, eqb-false (getD allowed node 0) 0 d) in
+              scanned-visit x refl (r .place) low
+              (record {
+                steps = step;
+                target = t;
+                inside = inside;
+                later = λ p. f (x .extends .found node (r .roots node (record { start-pair = p; inside = inside })));
+              })
+              only e
+
+      -- it ends
+      pub scanned-all : noStep ≤ label → Expanded (Begins starts starts′ allowed) (Goes starts starts′ allowed left right) mostPairs s₀ s head
+      scanned-all h = expanded x (λ l v g. omega (arith, step-low (r .lent .left-machine) (r .lent .right-machine) (g .steps)))
