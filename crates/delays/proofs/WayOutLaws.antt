@@ -11,7 +11,7 @@ use borrow.Author.Count.{below-more}
 use lib.ListN.{length, getD, set, length-append}
 use lib.Seq.{getD-set-same, getD-set-other}
 use Rattle.transducer.specs.Limits.{mostOutputs}
-use Rattle.product.specs.Numbers.{mostPairs, noTransition, sides, labelOf}
+use Rattle.product.specs.Numbers.{mostPairs, noTransition, sides, Label}
 use Rattle.witness.specs.Sides.{takenOf}
 use Rattle.delays.specs.Outputs.{countAt, codesAt}
 use Rattle.delays.specs.WaysOut.{mostWay, level, Leads, ends, goes, hops, hopsOf, Led, writtenOn, wordOut, Lists, GapIs, Known, Gaps}
@@ -22,7 +22,7 @@ pub record Onward (link label written : List ℕ) (v next : ℕ) : Type 0 where
   pub next-is : getD link v 0 ≡ next + 1
   pub led-next : Led link label next
   pub fewer : hopsOf link label v ≡ suc (hopsOf link label next)
-  pub low-label : getD label v 0 < labelOf noTransition noTransition
+  pub low-label : Label (getD label v 0)
   pub word : (right : Bool)
       → wordOut written link label right v ≡ codesAt written (takenOf right (getD label v 0)) ++ wordOut written link label right next
 
@@ -78,9 +78,9 @@ module _ {link label : List ℕ} where
   word-ends written {v} l h right = ap (λ k. writtenOn link label written right k v) (no-hops (l .leads) h)
 
 -- the transition of a label on either side is in the list
-pub taken-low : (right : Bool) (k : ℕ) → k < labelOf noTransition noTransition → takenOf right k < sides
-taken-low true k h = omega arith
-taken-low false k h = omega arith
+pub taken-low : (right : Bool) (k : ℕ) → Label k → takenOf right k ≤ noTransition
+taken-low true k h = h .1
+taken-low false k h = omega (arith, h .0)
 
 module _ {written link label : List ℕ} (lists : Lists written link label) where
   -- each link writes at most eight codes

@@ -7,7 +7,7 @@ use Prim.Native.Nat.{ℕ, zero, suc, _+_, _*_, _-_, _<_}
 use lib.Dec.{eqb}
 use lib.ListN.{length, getD}
 use Rattle.transducer.specs.Limits.{mostOutputs}
-use Rattle.product.specs.Numbers.{mostPairs, noTransition, labelOf}
+use Rattle.product.specs.Numbers.{mostPairs, Label}
 use Rattle.witness.specs.Sides.{takenOf}
 use Rattle.delays.specs.Outputs.{codesAt, Outputs}
 
@@ -23,7 +23,7 @@ module _ (link label : List ℕ) where
   -- from v, n links lead to a pair that has none (a link is 1 + the next pair, or 0), each with the label of a step
   pub data Leads : ℕ → ℕ → Type 0 where
     ends : {v : ℕ} → getD link v 0 ≡ 0 → Leads v 0
-    goes : {v j n : ℕ} → getD link v 0 ≡ j + 1 → j < mostPairs → getD label v 0 < labelOf noTransition noTransition → Leads j n → Leads v (suc n)
+    goes : {v j n : ℕ} → getD link v 0 ≡ j + 1 → j < mostPairs → Label (getD label v 0) → Leads j n → Leads v (suc n)
 
   -- how many links lead on from v, of `fuel` at most
   unfoldable pub hops : ℕ → ℕ → ℕ

@@ -15,7 +15,7 @@ use Rattle.transducer.specs.Walks.{Step, leftOf, rightOf}
 use Rattle.transducer.specs.declared.OutputCode.{OutputCode}
 use Rattle.transducer.specs.declared.Transducer.{Transducer}
 use Rattle.transducer.proofs.SizeLaws.{length-bytes}
-use Rattle.product.specs.Numbers.{mostPairs, noTransition, labelOf, stepOf}
+use Rattle.product.specs.Numbers.{mostPairs, noTransition, Label, stepOf}
 use Rattle.product.proofs.LabelLaws.{label-low}
 use Rattle.pairs.specs.Ways.{Useful, MovesBack, Way}
 use Rattle.pairs.specs.Ways.Link.{stops, goes}
@@ -57,7 +57,7 @@ side-none t false = refl
 
 module _ {t : Transducer} {written : List ℕ} (o : OutputsOf t written) where
   -- one label more
-  side-more : (r : Bool) (k : ℕ) (labels : List ℕ) → k < labelOf noTransition noTransition
+  side-more : (r : Bool) (k : ℕ) (labels : List ℕ) → Label k
       → side t r (k ∷ labels) ≡ codesAt written (takenOf r k) ++ side t r labels
   side-more r k labels h =
       ap (λ π. bytesOf (writes t π)) (side-cons r k labels h) ∙ go (eqb (takenOf r k) noTransition) refl
@@ -73,7 +73,7 @@ module _ {t : Transducer} {written : List ℕ} (o : OutputsOf t written) where
           rw (map-append, z)
 
   -- one label
-  pub side-one : (r : Bool) (k : ℕ) → k < labelOf noTransition noTransition → side t r (k ∷ []) ≡ codesAt written (takenOf r k)
+  pub side-one : (r : Bool) (k : ℕ) → Label k → side t r (k ∷ []) ≡ codesAt written (takenOf r k)
   side-one r k h = side-more r k [] h ∙ ap (λ (w : List ℕ). codesAt written (takenOf r k) ++ w) (side-none t r) ∙ append-nil (codesAt written (takenOf r k))
 
   -- a way out
@@ -124,7 +124,7 @@ module _ {t : Transducer} (valid : Valid t) {out out-step : List ℕ} {u : ℕ} 
     left-needs v h = rw (word-is true v h, word-is false v h) (sym (bytes-needed (writes t (leftOf (steps-out v))) (writes t (rightOf (steps-out v)))))
 
     -- the equation in numbers is the equation in words
-    pub equation-exactly : (i k j : ℕ) → Useful t i → Useful t j → k < labelOf noTransition noTransition
+    pub equation-exactly : (i k j : ℕ) → Useful t i → Useful t j → Label k
         → StepHolds written out out-step i k j ↔ Holds t (steps-out i) (stepOf k) (steps-out j)
     equation-exactly i k j h h′ low-k =
         let x = steps-out i in

@@ -12,7 +12,7 @@ use Rattle.transducer.specs.Limits.{mostStates, mostTransitions}
 use Rattle.transducer.specs.Valid.{Valid}
 use Rattle.transducer.specs.Walks.{both, left, right, inputOf, Edge, Move}
 use Rattle.transducer.specs.declared.Transducer.{Transducer}
-use Rattle.product.specs.Numbers.{noTransition, pairOf, firstOf, secondOf, sides, labelOf, stepOf, Moves}
+use Rattle.product.specs.Numbers.{noTransition, pairOf, firstOf, secondOf, sides, labelOf, Label, stepOf, Moves}
 
 -- ---- the number of a pair has its two states
 
@@ -85,11 +85,11 @@ module _ {t : Transducer} (valid : Valid t) where
   pub edge-number : {l p p′ : ℕ} → Edge t l p p′ → l < mostTransitions
   edge-number e = omega (arith, e .used, valid .few-transitions)
 
-  -- a label is below that of the step that takes no transition on either side
-  pub label-low : (u k v : ℕ) → Moves t u k v → k < labelOf noTransition noTransition
+  -- the label of a step is one
+  pub label-low : (u k v : ℕ) → Moves t u k v → Label k
   label-low u k v move = go (labelled t u k v move)
     where
-      go : Labelled t u k v → k < labelOf noTransition noTransition
-      go (Labelled.by-both l m e a b i n) = omega (arith, edge-number a, edge-number b)
-      go (Labelled.by-left l e a f i) = omega (arith, edge-number a)
-      go (Labelled.by-right m e f b i) = omega (arith, edge-number b)
+      go : Labelled t u k v → Label k
+      go (Labelled.by-both l m e a b i n) = (omega (arith, edge-number a, edge-number b), omega (arith, edge-number a, edge-number b))
+      go (Labelled.by-left l e a f i) = (omega (arith, edge-number a), omega (arith, edge-number a))
+      go (Labelled.by-right m e f b i) = (omega (arith, edge-number b), omega (arith, edge-number b))

@@ -10,7 +10,7 @@ use native.Mathlib.Omega.{arith}
 use borrow.Author.Tests.{eq-eqb, ne-eqb}
 use Rattle.transducer.specs.Limits.{mostStates}
 use Rattle.product.specs.Machine.{headOf, toOf, keyOf, nextOf, Leaves, Follows, Along, Machine}
-use Rattle.product.specs.Numbers.{noTransition, mostPairs, pairOf, firstOf, secondOf, sides, labelOf, noStep}
+use Rattle.product.specs.Numbers.{noTransition, mostPairs, pairOf, firstOf, secondOf, sides, labelOf, Label, noStep}
 use Rattle.product.specs.Steps.{sideOf, rowLabel, Matches, Steps, targetOf, First}
 use Rattle.product.specs.Steps.Steps.{by-both, by-left, by-right}
 
@@ -75,6 +75,12 @@ module _ {left right : List ℕ} (on-left : Machine left) (on-right : Machine ri
   step-low (by-both l m e x y i n) = omega (arith, x .used, y .used, on-left .few, on-right .few)
   step-low (by-left l e x i) = omega (arith, x .used, on-left .few)
   step-low (by-right m e y i) = omega (arith, y .used, on-right .few)
+
+  -- the label of a step is one
+  pub step-label : {u k : ℕ} → Steps left right u k → Label k
+  step-label (by-both l m e x y i n) = (omega (arith, x .used, y .used, on-left .few, on-right .few), omega (arith, y .used, on-right .few))
+  step-label (by-left l e x i) = (omega (arith, x .used, on-left .few), omega arith)
+  step-label (by-right m e y i) = (omega (arith, y .used, on-right .few), omega (arith, y .used, on-right .few))
 
   -- where no transition of the first state lies from `low` on and below l, no step has a label of those rows
   pub gap : {u low l k : ℕ} → Follows left (firstOf u) low l → low * sides ≤ k → k < l * sides → Steps left right u k → ⊥

@@ -1,6 +1,6 @@
 -- The numbers by which a search over pairs of states knows the pairs and their steps.
 use mathlib.Core.Bool.{cond}
-use Prim.Native.Nat.{ℕ, _+_, _*_, _/_, _%_}
+use Prim.Native.Nat.{ℕ, _+_, _*_, _/_, _%_, _≤_, _<_}
 use lib.Dec.{eqb}
 use Rattle.transducer.specs.Limits.{mostStates, mostTransitions}
 use Rattle.transducer.specs.StateSet.{In}
@@ -33,6 +33,10 @@ sides = mostTransitions + 1
 -- the label of the step that takes l on the left side and m on the right is 257 l + m
 abbrev pub labelOf : ℕ → ℕ → ℕ
 labelOf l m = l * sides + m
+
+-- k can be the label of a step: each side of it is a transition's number or 256, and not both are 256
+abbrev pub Label : ℕ → Type 0
+Label k = (k < labelOf noTransition noTransition) × (k % sides ≤ noTransition)
 
 -- a number that stands for no label
 abbrev pub noStep : ℕ

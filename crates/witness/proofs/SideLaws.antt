@@ -12,13 +12,13 @@ use lib.ListN.{length, getD, drop, set, length-set, length-map, drop-of-length-l
 use lib.Seq.{sets, sets-eq, drop-cons}
 use Rattle.transducer.specs.Walks.{both, left, right, leftIn, rightIn}
 use Rattle.transducer.proofs.SizeLaws.{length-sides}
-use Rattle.product.specs.Numbers.{noTransition, sides, labelOf, stepOf}
+use Rattle.product.specs.Numbers.{noTransition, sides, Label, stepOf}
 use Rattle.words.specs.Put.{put}
 use Rattle.witness.specs.Walk.{walkOf}
 use Rattle.witness.specs.Sides.{Labels, takenOf, sideOf, Front}
 
 -- what a label takes on each side
-step-takes : (k : ℕ) → k < labelOf noTransition noTransition
+step-takes : (k : ℕ) → Label k
     → (leftIn (stepOf k) ≡ cond (eqb (k / sides) noTransition) [] (k / sides ∷ []))
     × (rightIn (stepOf k) ≡ cond (eqb (k % sides) noTransition) [] (k % sides ∷ []))
 unfolding stepOf
@@ -27,21 +27,21 @@ step-takes k h = go (eqb (k / sides) noTransition) (eqb (k % sides) noTransition
     go : (a b : Bool) → eqb (k / sides) noTransition ≡ a → eqb (k % sides) noTransition ≡ b
         → (leftIn (cond a (right (k % sides)) (cond b (left (k / sides)) (both (k / sides) (k % sides)))) ≡ cond a [] (k / sides ∷ []))
         × (rightIn (cond a (right (k % sides)) (cond b (left (k / sides)) (both (k / sides) (k % sides)))) ≡ cond b [] (k % sides ∷ []))
-    go true true e d = absurd (omega (arith, eqb-true (k / sides) noTransition e, eqb-true (k % sides) noTransition d))
+    go true true e d = absurd (omega (arith, h .0, eqb-true (k / sides) noTransition e, eqb-true (k % sides) noTransition d))
     go true false e d = (refl, refl)
     go false true e d = (refl, refl)
     go false false e d = (refl, refl)
 
 -- a side begins with what its first label takes
-pub side-cons : (r : Bool) (k : ℕ) (labels : List ℕ) → k < labelOf noTransition noTransition
+pub side-cons : (r : Bool) (k : ℕ) (labels : List ℕ) → Label k
     → sideOf r (walkOf (k ∷ labels)) ≡ cond (eqb (takenOf r k) noTransition) [] (takenOf r k ∷ []) ++ sideOf r (walkOf labels)
 side-cons true k labels h = rw (step-takes k h .1)
 side-cons false k labels h = rw (step-takes k h .0)
 
 -- a label has at most 256 on each side
-pub taken-small : (r : Bool) (k : ℕ) → k < labelOf noTransition noTransition → takenOf r k ≤ noTransition
-taken-small true k h = omega arith
-taken-small false k h = omega arith
+pub taken-small : (r : Bool) (k : ℕ) → Label k → takenOf r k ≤ noTransition
+taken-small true k h = h .1
+taken-small false k h = omega (arith, h .0)
 
 -- no label takes nothing
 side-nil : (r : Bool) → sideOf r [] ≡ []

@@ -8,7 +8,7 @@ use borrow.Author.Tests.{not-true, not-false}
 use lib.ListN.{length}
 use Rattle.product.specs.Numbers.{noStep}
 use Rattle.product.specs.Steps.{Steps}
-use Rattle.product.proofs.StepLaws.{step-low, target-low, first-rises}
+use Rattle.product.proofs.StepLaws.{step-label, target-low, first-rises}
 use Rattle.delays.specs.Needs.{StepHolds}
 use Rattle.equations.specs.Tests.{StepsPass, Testing}
 use Rattle.equations.proofs.TriedLaws.{pass-first, pass-next, tried-all, tried-one, testing-still, step-holds, step-fails}
@@ -53,7 +53,7 @@ passes-requires c κs =
     let s = c .before .before .before .before .before .before .before .before .before .before .before .before .before .pre in
     let m = s .measured .machine in
     let z = step (c .before .before .before) in
-    (s .measured .grounds, ((step-low m m z, omega (arith, c .before .before .target .ensures, target-low m m (s .inside) z)), c .before .before .before .before .loop .inv .3 .fronts))
+    (s .measured .grounds, ((step-label m m z, omega (arith, c .before .before .target .ensures, target-low m m (s .inside) z)), c .before .before .before .before .loop .inv .3 .fronts))
 
 same-length : tie.Need-same-length Inv-loop μ-loop
 same-length c = search needs
