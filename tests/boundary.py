@@ -1,6 +1,7 @@
 """Comparisons of the library's calls, made through ctypes, with what they owe (owed.py)."""
 
 import threading
+from itertools import permutations
 
 import cases
 import damage
@@ -8,13 +9,14 @@ import generate
 from compare import DAMAGED_KINDS, as_codes, randomness
 from library import CALLS, OF_FILES, Call, Library, build, full_sizes
 from listing import Refusal, parse_verdict
-from owed import CLASH, FIRST_AHEAD, LEVEL, SECOND_AHEAD, faults_of, table_of
+from owed import CLASH, COMPARISONS, FIRST_AHEAD, LEVEL, SECOND_AHEAD, faults_of, table_of
 from settings import share
-from transducer import MAX_WORD, table_file
+from transducer import MAX_CODE, MAX_WORD, table_file
 from workers import spread
 
 MIXED = 1_500  # files with random damages, words and sizes
 DIFFERENCES = 600
+MANY = 1_000_000  # codes of a long list
 ROUNDS = 3  # how often each thread makes every call
 SOME_TABLES = 4  # one table of a kind in so many is compared through the library
 
@@ -148,11 +150,13 @@ def compare_files(library, findings):
 
 # --- differences -----------------------------------------------------------------------------------------------------
 
-# first list, second list, kind, common length
+# both lists; kind, common length
 KNOWN_DIFFERENCES = (
-    (b"\5\6", b"\5", FIRST_AHEAD, 1), (b"\5", b"\5\6", SECOND_AHEAD, 1), (b"\5\6", b"\5\7", CLASH, 1), (b"", b"", LEVEL, 0),
-    (b"", b"\0", SECOND_AHEAD, 0), (b"\xff", b"", FIRST_AHEAD, 0), (b"\0", b"\0", LEVEL, 1), (b"\0", b"\xff", CLASH, 0),
+    ((b"\5\6", b"\5"), (FIRST_AHEAD, 1)), ((b"\5", b"\5\6"), (SECOND_AHEAD, 1)), ((b"\5\6", b"\5\7"), (CLASH, 1)), ((b"", b""), (LEVEL, 0)),
+    ((b"", b"\0"), (SECOND_AHEAD, 0)), ((b"\xff", b""), (FIRST_AHEAD, 0)), ((b"\0", b"\0"), (LEVEL, 1)), ((b"\0", b"\xff"), (CLASH, 0)),
 )
+# what long lists are made of: bytes that are no output codes are compared like any others
+ALPHABETS = {"output codes": range(1, MAX_CODE + 1), "any bytes": range(256), "no output codes": (0, *range(MAX_CODE + 1, 256))}
 
 
 def two_lists(random):
@@ -163,17 +167,43 @@ def two_lists(random):
     return common + ends[0], common + ends[1]
 
 
+def check_known(findings, group, call, answer, note):
+    """A difference whose answer is known by the way the lists were made; they, too, are compared whole."""
+    faults = [f"returned {call.returned}"] if call.returned else []
+    faults += [f"{lent} holds something else than it owes" for lent in call.changed({"answer": answer})]
+    findings.check(f"library, {group}", faults, b"", f"{note}: expected {answer}, answered {call.lent['answer'].items(2)}")
+
+
 def compare_differences(library, findings):
     random = randomness("library, differences")
-    for x, y, kind, common in KNOWN_DIFFERENCES:
-        call = library.call(random, "difference", x, y)
-        right = not call.returned and not call.changed({"answer": (kind, common)})
-        faults = [] if right else [f"expected {kind}, {common}; returned {call.returned}, {call.lent['answer'].items(2)}"]
-        findings.check("library, difference", faults, b"", f"{x!r} and {y!r}")
+    for lists, answer in KNOWN_DIFFERENCES:
+        check_known(findings, "difference", library.call(random, "difference", *lists), answer, f"{lists}")
     for _ in range(share(DIFFERENCES)):
         x, y = two_lists(random)
         for places in (2, 5, 1, 0):
             check(findings, "difference", None, library.call(random, "difference", x, y, answer=places), f"{x[:60]!r} and {y[:60]!r}")
+
+
+def long_lists(codes):
+    """Two lists of 1,000,000 codes or more, of 1,500,000 that are given: level, each ahead by one and by half, and clashes at the last place. What
+    they are; both; the answer."""
+    x, but_one = codes[:MANY], codes[:MANY - 1]
+    yield "level", (x, x), (LEVEL, MANY)
+    for more in (codes[:MANY + 1], codes):
+        yield f"{len(more):,} and {MANY:,} codes", (more, x), (FIRST_AHEAD, MANY)
+        yield f"{MANY:,} and {len(more):,} codes", (x, more), (SECOND_AHEAD, MANY)
+    for last in permutations((0, 1, MAX_CODE, MAX_CODE + 1, 255), 2):
+        yield f"{last} at the last place", tuple(but_one + bytes((code,)) for code in last), (CLASH, MANY - 1)
+
+
+def compare_long(library, findings):
+    group = f"lists of {MANY:,} codes"
+    for name, alphabet in ALPHABETS.items():
+        random = randomness("library", group, name)
+        codes = random.randbytes(MANY * 3 // 2).translate(bytes(alphabet[byte % len(alphabet)] for byte in range(256)))
+        for what, lists, answer in long_lists(codes):
+            check_known(findings, group, library.call(random, "difference", *lists), answer, f"{what}, {name}")
+            findings.count(f"library, {group}", COMPARISONS[answer[0]])
 
 
 # --- threads ---------------------------------------------------------------------------------------------------------
@@ -227,7 +257,7 @@ def run(findings):
     build()
     jobs = [(compare_table, kind, index) for kind, (count, _) in generate.KINDS.items() for index in range(share(-(-count // SOME_TABLES)))]
     jobs += [(compare_mixed, index) for index in range(share(MIXED))]
-    jobs += [(compare_orders,), (compare_files,), (compare_differences,)]
+    jobs += [(compare_orders,), (compare_files,), (compare_differences,), (compare_long,)]
     spread(Library, jobs, findings)
 
 

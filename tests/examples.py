@@ -15,6 +15,7 @@ from deskanswers import faults_of_run, faults_where, numbers
 from library import compile_c, find_archive
 from linked import STRICT
 from listing import Refusal
+from owed import COMPARISONS
 from programs import HANGS, ROOT, TIME_LIMIT
 from settings import share
 from transducer import table_file
@@ -24,6 +25,7 @@ sys.path.append(str(ROOT / "cli"))
 import desktool.library
 
 TABLES = 24  # generated tables that the examples are run on
+LISTS = (1_000, 1_000_000)  # codes of the lists whose difference stack.c measures
 
 
 def text_of(*names):
@@ -52,15 +54,27 @@ def try_sizes(_, findings):
         findings.check("header", other or faults_where((found, f"no sizes in {where}")), b"", "sizes")
 
 
+def run_stack(folder, *linked):
+    """stack.c with what is linked to it, run on the table with the longest translation."""
+    transducer, _, _ = cases.longest_translation()
+    (folder / "table").write_bytes(table_file(transducer))
+    complaint = compile_c("gcc", "-std=c99", *STRICT, "-o", folder / "stack", ROOT / "tests" / "stack.c", *linked)
+    return (None, "", complaint) if complaint else run_program(folder / "stack", folder / "table")
+
+
+def stack_of_lists(run):
+    """For each kind of difference the bytes of stack with short lists and with long ones; None where that was not measured."""
+    lines = re.findall(r"^(\d+) codes, kind (\d+): (\d+)$", run[1], re.MULTILINE)
+    taken = {(kind, int(codes)): int(number) for codes, kind, number in lines}
+    return {name: tuple(taken.get((str(kind), codes)) for codes in LISTS) for kind, name in enumerate(COMPARISONS)}
+
+
 def try_stack(folder, findings):
-    """The stack that each call takes is no more than the header says; the figures are printed."""
+    """The stack that each call takes is no more than the header says, and a difference takes the same for long lists; the figures are printed."""
     header = text_of("include", "yotselina.h")
     promises = re.findall(r"^ \* Stack: ([\d,]+) bytes\.\n \*/\nuint32_t (\w+)\(", header, re.MULTILINE)
     promised = {name: int(number.replace(",", "")) for number, name in promises}
-    transducer, _, _ = cases.longest_translation()
-    (folder / "table").write_bytes(table_file(transducer))
-    complaint = compile_c("gcc", "-std=c99", *STRICT, "-o", folder / "stack", ROOT / "tests" / "stack.c", find_archive())
-    run = (None, "", complaint) if complaint else run_program(folder / "stack", folder / "table")
+    run = run_stack(folder, find_archive())
     taken = {name: int(number) for name, number in re.findall(r"^(\w+) (\d+)$", run[1], re.MULTILINE)}
     print("  stack, bytes: " + ", ".join(f"{name.removeprefix('yotselina_')} {number:,}" for name, number in taken.items()))
     faults = faults_of_run(run, 0, "yotselina_")
@@ -71,6 +85,10 @@ def try_stack(folder, findings):
     faults += [f"docs/MANUAL.md has another figure for {name}" for name, most in promised.items()
                if not re.search(rf"^\| `{name}` \|.*\| {most:,} \|$", manual, re.MULTILINE)]
     findings.check("header", faults, b"", "stack")
+    lists = stack_of_lists(run)
+    print(f"  stack of a difference, bytes for {LISTS[0]:,} and {LISTS[1]:,} codes: " + ", ".join(f"{name} {both}" for name, both in lists.items()))
+    for name, (short, long) in lists.items():
+        findings.check("stack of a difference", faults_where((short and short == long, f"{short} and {long} bytes")), b"", f"{name}, {LISTS} codes")
 
 
 # --- the examples ------------------------------------------------------------------------------------------------------

@@ -6,6 +6,7 @@ from ctypes import c_uint8, c_uint16, c_uint64
 from pathlib import Path
 
 import boundary
+from examples import run_stack, stack_of_lists
 from findings import Findings
 from library import CALLS, Library, build, link_shared
 from tools import debian
@@ -44,9 +45,14 @@ FAULTS = (
     ("the last byte is not counted", "write", "", "if (!r) answer[0]--;"),
     ("the sides are exchanged", "difference", "", "if (!r && (answer[0] == 1 || answer[0] == 2)) answer[0] = 3 - answer[0];"),
     ("only the first 65,536 codes are compared", "difference", "if (x_length > 65536 && y_length > 65536) x_length = y_length = 65536;", ""),
+    ("only the first 999,999 codes are compared", "difference", "if (x_length > 999999 && y_length > 999999) x_length = y_length = 999999;", ""),
+    ("a byte over 250 ends a list", "difference", "size_t n = 0; while (n < x_length && x[n] < 251) n++; x_length = n;", ""),
+    ("a list that is compared is changed", "difference", "", "if (!r && y_length) ((uint8_t *)y)[y_length - 1] ^= 1;"),
 )
 # a function that keeps something while it runs: seen only where another thread is in it at the same time
 SHARES = ("memory that threads share", "verdict", "static volatile size_t kept; kept = file_length;", "if (!r && kept != file_length) answer[1]++;")
+# a function that copies what is lent: seen only by the stack that it takes
+COPIES = ("a list is copied", "difference", "uint8_t copy[x_length + 1]; for (size_t i = 0; i < x_length; i++) copy[i] = x[i]; x = copy;", "")
 
 
 def source(name, before, after):
@@ -64,12 +70,18 @@ uint32_t yotselina_{name}({parameters}) {{ {before} uint32_t r = right({given});
 """
 
 
-def wrong_library(folder, archive, fault):
-    """The shared object with the fault in it."""
+def wrong_parts(folder, archive, fault):
+    """The wrong function in C, and the archive with the right one under another name."""
     _, name, before, after = fault
     (folder / "wrong.c").write_text(source(name, before, after), encoding="ascii")
     subprocess.run([debian("objcopy", "binutils"), "--redefine-sym", f"yotselina_{name}=right", archive, folder / "right.a"], check=True)
-    link_shared(folder / "wrong.so", folder / "right.a", folder / "wrong.c")
+    return folder / "wrong.c", folder / "right.a"
+
+
+def wrong_library(folder, archive, fault):
+    """The shared object with the fault in it."""
+    wrong, right = wrong_parts(folder, archive, fault)
+    link_shared(folder / "wrong.so", right, wrong)
     return Library(folder / "wrong.so")
 
 
@@ -78,6 +90,7 @@ def compare_some(library, name):
     found = Findings()
     if name == "difference":
         boundary.compare_differences(library, found)
+        boundary.compare_long(library, found)
         return found
     for kind in KINDS:
         for index in range(TABLES):
@@ -99,6 +112,13 @@ def try_fault(_, findings, archive, fault):
     findings.check(GROUP, [] if found.failures else [f"not found: {fault[0]} ({fault[1]})"], b"")
 
 
+def try_copies(_, findings, archive):
+    with tempfile.TemporaryDirectory() as folder:
+        taken = stack_of_lists(run_stack(Path(folder), *wrong_parts(Path(folder), archive, COPIES)))
+    grown = all(short and long and short < long for short, long in taken.values())
+    findings.check(GROUP, [] if grown else [f"not found: {COPIES[0]} ({COPIES[1]}): {taken}"], b"")
+
+
 def run(findings):
     archive = build()
-    spread(Library, [(try_fault, archive, fault) for fault in (*FAULTS, SHARES)], findings, batch=2)
+    spread(Library, [(try_fault, archive, fault) for fault in (*FAULTS, SHARES)] + [(try_copies, archive)], findings, batch=2)

@@ -12,6 +12,7 @@ from transducer import MAX_STATES
 ANSWER_TOO_SHORT = 100
 TOO_SHORT = 7
 LEVEL, FIRST_AHEAD, SECOND_AHEAD, CLASH = range(4)
+COMPARISONS = ("level", "first ahead", "second ahead", "clash")  # their names
 SHOWN = ("word", "path_a", "path_b", "output_x", "output_y")
 
 

@@ -1,6 +1,7 @@
 /*
  * How much stack each call takes: it runs on a stack of its own that was painted before, and the deepest byte that lost its colour tells.
  * Prints a line for each call: its name and the bytes. The argument is the table file; its input word is as many ones as a word may have.
+ * Then a line for each of some differences of short and of long lists: the codes of the longer list, the kind that is answered, and the bytes.
  */
 #define _XOPEN_SOURCE 700
 #include <stdio.h>
@@ -10,8 +11,10 @@
 
 #include "yotselina.h"
 
-#define ROOM (1 << 20)
+#define ROOM (1 << 22) /* more than two long lists */
 #define PAINT 0xa5
+#define SHORT 1000
+#define LONG 1000000
 
 static unsigned char room[ROOM];
 static uint8_t file[YOTSELINA_FILE + 1];
@@ -20,7 +23,10 @@ static uint8_t word[YOTSELINA_WITNESS], flags[YOTSELINA_PAIRS], out[YOTSELINA_FI
 static uint16_t path_a[YOTSELINA_WITNESS], path_b[YOTSELINA_WITNESS];
 static uint8_t output_x[YOTSELINA_WITNESS_OUTPUT], output_y[YOTSELINA_WITNESS_OUTPUT], output[YOTSELINA_OUTPUT], input[YOTSELINA_WORD];
 static uint64_t answer[YOTSELINA_VERDICT_ANSWER];
+static uint8_t list_x[LONG], list_y[LONG];
+static size_t length_x, length_y;
 static uint32_t returned;
+static size_t itself; /* what making a call takes */
 static ucontext_t here, there;
 
 static void nothing(void) { returned = 0; }
@@ -43,6 +49,10 @@ static void difference(void)
 {
     returned = yotselina_difference(file, length, file, length, answer, YOTSELINA_DIFFERENCE_ANSWER);
 }
+static void difference_of_lists(void)
+{
+    returned = yotselina_difference(list_x, length_x, list_y, length_y, answer, YOTSELINA_DIFFERENCE_ANSWER);
+}
 static void rewrite(void) { returned = yotselina_write(file, length, out, sizeof out, answer, YOTSELINA_WRITE_ANSWER); }
 
 /* The bytes of stack that a call takes. */
@@ -61,20 +71,38 @@ static size_t deepest(void (*call)(void))
     return ROOM - left;
 }
 
-static void measure(const char *name, void (*call)(void), size_t itself)
+/* The same without what making it takes; a call that is refused ends the program. */
+static size_t taken(const char *name, void (*call)(void))
 {
     size_t bytes = deepest(call);
     if (returned != 0) {
         fprintf(stderr, "%s: refused with number %u, record %u\n", name, (unsigned)YOTSELINA_NUMBER(returned), (unsigned)YOTSELINA_RECORD(returned));
         exit(2);
     }
-    printf("%s %lu\n", name, (unsigned long)(bytes - itself));
+    return bytes - itself;
+}
+
+static void measure(const char *name, void (*call)(void)) { printf("%s %lu\n", name, (unsigned long)taken(name, call)); }
+
+/* Lists that are level, each of them ahead by half, and a clash at the last place. */
+static void measure_lists(size_t codes)
+{
+    const size_t lengths[4][2] = {{codes, codes}, {codes, codes / 2}, {codes / 2, codes}, {codes, codes}};
+    int i;
+    for (i = 0; i < 4; i++) {
+        size_t bytes;
+        length_x = lengths[i][0];
+        length_y = lengths[i][1];
+        list_y[codes - 1] = i == 3;
+        bytes = taken("yotselina_difference", difference_of_lists);
+        printf("%lu codes, kind %lu: %lu\n", (unsigned long)codes, (unsigned long)answer[0], (unsigned long)bytes);
+    }
+    list_y[codes - 1] = 0;
 }
 
 int main(int count, char **arguments)
 {
     FILE *stream = count == 2 ? fopen(arguments[1], "rb") : NULL;
-    size_t itself;
     if (stream == NULL) {
         fprintf(stderr, "usage: stack FILE\n");
         return 2;
@@ -83,12 +111,14 @@ int main(int count, char **arguments)
     fclose(stream);
     memset(input, 1, sizeof input);
     itself = deepest(nothing);
-    measure("yotselina_check", check, itself);
-    measure("yotselina_verdict", verdict, itself);
-    measure("yotselina_translate", translate, itself);
-    measure("yotselina_useful_states", useful_states, itself);
-    measure("yotselina_useful_pairs", useful_pairs, itself);
-    measure("yotselina_difference", difference, itself);
-    measure("yotselina_write", rewrite, itself);
+    measure("yotselina_check", check);
+    measure("yotselina_verdict", verdict);
+    measure("yotselina_translate", translate);
+    measure("yotselina_useful_states", useful_states);
+    measure("yotselina_useful_pairs", useful_pairs);
+    measure("yotselina_difference", difference);
+    measure("yotselina_write", rewrite);
+    measure_lists(SHORT);
+    measure_lists(LONG);
     return 0;
 }
