@@ -49,7 +49,11 @@ pub const STATES: usize = 32;
 pub const PAIRS: usize = 1_024;
 pub const UNREAD: u32 = 11;
 
-/// The memory that the calls write to.
+pub fn check(file: &[u8]) -> u32 {
+    unsafe { yotselina_check(file.as_ptr(), file.len()) }
+}
+
+/// The memory that the other calls write to.
 pub struct Buffers {
     word: Vec<u8>,
     paths: [Vec<u16>; 2],
@@ -71,10 +75,6 @@ impl Buffers {
             flags: vec![0; PAIRS],
             answer: [0; 7],
         }
-    }
-
-    pub fn check(&self, file: &[u8]) -> u32 {
-        unsafe { yotselina_check(file.as_ptr(), file.len()) }
     }
 
     /// What the call returned; whether the table is split; u.

@@ -1,6 +1,7 @@
-//! Measures the library side by side with plain Rust (residue.rs, search.rs) on the same tables, in one process, and prints FIGURES.md.
+//! Measures the library side by side with plain Rust on the same tables, in one process, and prints FIGURES.md.
 //! `bench REPETITIONS COMPILER`; bench/run builds and starts it. README.md says how it is measured.
 
+mod equations;
 mod library;
 mod plain;
 mod residue;
@@ -26,6 +27,7 @@ extern "C" {
 
 const PROCESS_TIME: i32 = 2; // CLOCK_PROCESS_CPUTIME_ID
 const SAMPLE: f64 = 2_000.0; // microseconds that the calls of one repetition take at least, together
+const LONG: f64 = 50.0; // microseconds from which on a call of the library counts as long in the summary
 
 /// The processor time of this process, in microseconds.
 fn now() -> f64 {
@@ -34,7 +36,7 @@ fn now() -> f64 {
     time.seconds as f64 * 1e6 + time.nanoseconds as f64 / 1e3
 }
 
-/// One of the two that are compared: its call is made so often that a repetition lasts long enough; a time is that of one call.
+/// One of those that are compared: its call is made so often that a repetition lasts long enough; a time is that of one call.
 struct Side<'a> {
     call: &'a mut dyn FnMut(),
     calls: usize,
@@ -71,50 +73,73 @@ impl Times {
     }
 }
 
+/// Measures the calls of one table. The sides take turns, so that a busy machine slows all.
+fn measure<const SIDES: usize>(name: &str, repetitions: usize, calls: [&mut dyn FnMut(); SIDES]) -> [Times; SIDES] {
+    eprintln!("bench: {name}");
+    let mut sides = calls.map(Side::new);
+    for _ in 0..repetitions {
+        for side in &mut sides {
+            let time = side.repetition();
+            side.times.push(time);
+        }
+    }
+    sides.map(|side| Times::of(side.times))
+}
+
 struct Row {
     name: String,
     facts: [String; 2],
     ours: Times,
     yardstick: Times,
+    net: Option<Net>,
+}
+
+/// The smallest times of a verdict, of the library and of equations.rs, each less that of its own reading of the same file.
+struct Net {
+    ours: f64,
+    equations: f64,
 }
 
 impl Row {
-    /// The two sides take turns, so that a busy machine slows both.
-    fn measure(name: &str, facts: [String; 2], repetitions: usize, ours: &mut dyn FnMut(), yardstick: &mut dyn FnMut()) -> Row {
-        eprintln!("bench: {name}");
-        let mut sides = [Side::new(ours), Side::new(yardstick)];
-        for _ in 0..repetitions {
-            for side in &mut sides {
-                let time = side.repetition();
-                side.times.push(time);
-            }
-        }
-        let [ours, yardstick] = sides.map(|side| Times::of(side.times));
-        Row { name: name.to_string(), facts, ours, yardstick }
-    }
-
     fn ratio(&self) -> f64 {
         self.ours.smallest / self.yardstick.smallest
     }
+
+    /// The row as it is printed: the ratios first.
+    fn cells(&self) -> Vec<String> {
+        let mut cells = vec![self.name.clone(), format!("**{}**", digits(self.ratio())), digits(self.ours.median / self.yardstick.median)];
+        cells.extend(self.net.iter().map(|net| format!("**{}**", digits(net.ratio()))));
+        cells.extend(self.facts.clone());
+        cells.extend([&self.ours, &self.yardstick].iter().flat_map(|times| [times.smallest, times.median]).map(digits));
+        cells.extend(self.net.iter().flat_map(|net| [net.ours, net.equations]).map(digits));
+        cells
+    }
 }
 
-/// Ends the run where the library does not answer as the yardstick has: nothing wrong is timed.
-fn compare<T: PartialEq + std::fmt::Debug>(name: &str, answer: T, expected: T) {
+impl Net {
+    fn ratio(&self) -> f64 {
+        self.ours / self.equations
+    }
+}
+
+/// Ends the run where an answer is not the yardstick's: nothing wrong is timed.
+fn compare<T: PartialEq + std::fmt::Debug>(name: &str, side: &str, answer: T, expected: T) {
     if answer != expected {
         let cut = |answer| format!("{answer:?}").chars().take(200).collect::<String>();
-        eprintln!("bench: {name}: THE ANSWERS DIFFER: the library's is {}, the yardstick's {}", cut(answer), cut(expected));
+        eprintln!("bench: {name}: THE ANSWERS DIFFER: {side} has {}, the yardstick {}", cut(answer), cut(expected));
         std::process::exit(1)
     }
 }
 
 // --- reading ---------------------------------------------------------------------------------------------------------
 
-fn reading_row(name: &str, table: Table, repetitions: usize, buffers: &mut Buffers) -> Row {
+fn reading_row(name: &str, table: Table, repetitions: usize) -> Row {
     let file = table.file();
     let facts = [grouped(file.len()), plain::read(&file).transitions.len().to_string()];
-    let mut ours = || compare(name, buffers.check(black_box(&file)), 0);
+    let mut ours = || compare(name, "the library", library::check(black_box(&file)), 0);
     let mut yardstick = || drop(black_box(plain::read(black_box(&file))));
-    Row::measure(name, facts, repetitions, &mut ours, &mut yardstick)
+    let [ours, yardstick] = measure(name, repetitions, [&mut ours, &mut yardstick]);
+    Row { name: name.to_string(), facts, ours, yardstick, net: None }
 }
 
 // --- the verdict -----------------------------------------------------------------------------------------------------
@@ -164,9 +189,15 @@ fn verdict_row(name: &str, split: bool, table: Table, repetitions: usize, buffer
     let (found, useful) = residue::decide(&file);
     assert_eq!(found, split, "{name}: residue.rs does not give the verdict that the table was made for");
     let facts = [["single", "split"][split as usize].to_string(), useful.to_string()];
-    let mut ours = || compare(name, buffers.verdict(black_box(&file)), (0, split as u64, useful as u64));
-    let mut yardstick = || assert!(residue::decide(black_box(&file)) == (split, useful));
-    Row::measure(name, facts, repetitions, &mut ours, &mut yardstick)
+    let mut ours = || compare(name, "the library", buffers.verdict(black_box(&file)), (0, split as u64, useful as u64));
+    let mut residue = || assert!(residue::decide(black_box(&file)) == (split, useful));
+    let mut check = || compare(name, "the library", library::check(black_box(&file)), 0);
+    let mut equations = || compare(name, "equations.rs", equations::decide(black_box(&file)), (split, useful));
+    let mut read = || drop(black_box(plain::read(black_box(&file))));
+    let calls: [&mut dyn FnMut(); 5] = [&mut ours, &mut residue, &mut check, &mut equations, &mut read];
+    let [ours, yardstick, check, equations, read] = measure(name, repetitions, calls);
+    let net = Net { ours: ours.smallest - check.smallest, equations: equations.smallest - read.smallest };
+    Row { name: name.to_string(), facts, ours, yardstick, net: Some(net) }
 }
 
 // --- the translator --------------------------------------------------------------------------------------------------
@@ -199,9 +230,10 @@ fn translation_row(name: &str, table: Table, word: &[u8], repetitions: usize, bu
     let expected = found.as_deref().ok_or(library::UNREAD);
     let facts = [word.len().to_string(), expected.map_or("unread".into(), |output| grouped(output.len()))];
     buffers.output.fill(0);
-    let mut ours = || compare(name, buffers.translate(black_box(&file), black_box(word)), expected);
+    let mut ours = || compare(name, "the library", buffers.translate(black_box(&file), black_box(word)), expected);
     let mut yardstick = || assert!(search::translate(black_box(&file), black_box(word)) == found);
-    Row::measure(name, facts, repetitions, &mut ours, &mut yardstick)
+    let [ours, yardstick] = measure(name, repetitions, [&mut ours, &mut yardstick]);
+    Row { name: name.to_string(), facts, ours, yardstick, net: None }
 }
 
 // --- memory ----------------------------------------------------------------------------------------------------------
@@ -217,7 +249,7 @@ fn print_memory(buffers: &mut Buffers) {
     }
     type Call = fn(&mut Buffers, &[u8], &[u8]) -> u32;
     let calls: [(&str, usize, Call); 7] = [
-        ("check", 0, |buffers, file, _| buffers.check(file)),
+        ("check", 0, |_, file, _| library::check(file)),
         ("verdict", 5 * library::WITNESS + 2 * library::WITNESS_OUTPUT + 7 * 8, |buffers, file, _| buffers.verdict(file).0),
         ("translate", library::OUTPUT + 8, |buffers, file, word| buffers.translate(file, word).err().unwrap_or(0)),
         ("useful_states", library::STATES, |buffers, file, _| buffers.useful_states(file)),
@@ -226,7 +258,7 @@ fn print_memory(buffers: &mut Buffers) {
         ("write", library::FILE + 8, |buffers, file, _| buffers.write(file)),
     ];
     println!("\n## Memory of each call\n\n| call | stack, bytes | lent buffers, bytes |\n|---|---|---|");
-    for (name, bytes, call) in calls {
+    let stacks = calls.map(|(name, bytes, call)| {
         let depth = |(file, word): &(Vec<u8>, Vec<u8>)| {
             stack::depth(&mut || {
                 let returned = call(buffers, file, word);
@@ -235,7 +267,11 @@ fn print_memory(buffers: &mut Buffers) {
         };
         let stack = given.iter().map(depth).max().unwrap();
         println!("| `yotselina_{name}` | {} | {} |", grouped(stack), grouped(bytes));
-    }
+        stack
+    });
+    let [check, verdict, ..] = stacks;
+    let numbers = [verdict, check, verdict - check].map(grouped);
+    println!("\nStack of a verdict: {} bytes; of reading alone, by `yotselina_check`: {}; difference: {}.", numbers[0], numbers[1], numbers[2]);
 }
 
 // --- printing --------------------------------------------------------------------------------------------------------
@@ -254,29 +290,44 @@ impl Section {
         println!("\n## {}", self.title);
         for (title, rows) in &self.groups {
             println!("\n### {title}\n");
-            println!("| table | ratio | ratio of medians | {} | library µs | median | {} µs | median |", self.facts.join(" | "), self.yardstick);
-            println!("|---|---|---|---|---|---|---|---|---|");
-            for row in rows {
-                let ratios = [row.ratio(), row.ours.median / row.yardstick.median].map(digits);
-                let times = [row.ours.smallest, row.ours.median, row.yardstick.smallest, row.yardstick.median].map(digits);
-                println!("| {} | **{}** | {} | {} | {} |", row.name, ratios[0], ratios[1], row.facts.join(" | "), times.join(" | "));
+            let has_net = rows.iter().any(|row| row.net.is_some());
+            let [ratio, times] = if has_net { ["net ratio to equations.rs | ", " | net library µs | net equations.rs µs"] } else { [""; 2] };
+            let (facts, yardstick) = (self.facts.join(" | "), self.yardstick);
+            let head =
+                format!("table | ratio to {yardstick} | ratio of medians | {ratio}{facts} | library µs | median | {yardstick} µs | median{times}");
+            println!("| {head} |\n{}|", "|---".repeat(head.split('|').count()));
+            rows.iter().for_each(|row| println!("| {} |", row.cells().join(" | ")));
+        }
+    }
+
+    fn rows(&self) -> impl Iterator<Item = &Row> {
+        self.groups.iter().flat_map(|(_, rows)| rows)
+    }
+
+    fn named(&self, row: &Row) -> String {
+        format!("{} ({}: {}, {}: {})", row.name, self.facts[0], row.facts[0], self.facts[1], row.facts[1])
+    }
+
+    /// The range of the ratios to each yardstick, and the table with the largest: over all tables, and over those on which the call is long.
+    fn print_ratios(&self) {
+        let ratios: [(&str, fn(&Row) -> Option<f64>); 2] =
+            [(self.yardstick, |row| Some(row.ratio())), ("equations.rs, net of reading", |row| row.net.as_ref().map(Net::ratio))];
+        for (yardstick, ratio) in ratios {
+            for (tables, least_time) in [("all".to_string(), 0.0), (format!("{LONG} µs or more"), LONG)] {
+                let rows = self.rows().filter(|row| row.ours.smallest >= least_time);
+                let mut found: Vec<(f64, &Row)> = rows.filter_map(|row| Some((ratio(row)?, row))).collect();
+                found.sort_by(|a, b| a.0.total_cmp(&b.0));
+                let (Some((least, _)), Some((largest, worst))) = (found.first(), found.last()) else { continue };
+                let range = [*least, *largest].map(digits);
+                let worst = self.named(worst);
+                println!("| `{}` / {yardstick} | {tables}: {} | {} | **{}** | {worst} |", self.library, found.len(), range[0], range[1]);
             }
         }
     }
 
-    /// The range of the ratios, and the tables on which the library is worst: by ratio, and by time.
-    fn print_worst(&self) {
-        let rows = || self.groups.iter().flat_map(|(_, rows)| rows);
-        let least = rows().map(Row::ratio).fold(f64::INFINITY, f64::min);
-        let worst = rows().max_by(|a, b| a.ratio().total_cmp(&b.ratio())).unwrap();
-        let longest = rows().max_by(|a, b| a.ours.smallest.total_cmp(&b.ours.smallest)).unwrap();
-        let [named, named_longest] = [worst, longest].map(|row| {
-            let [(first, x), (second, y)] = [(self.facts[0], &row.facts[0]), (self.facts[1], &row.facts[1])];
-            format!("{} ({first}: {x}, {second}: {y})", row.name)
-        });
-        let numbers = [least, worst.ratio(), longest.ours.smallest].map(digits);
-        let calls = format!("`{}` / {}", self.library, self.yardstick);
-        println!("| {calls} | {} | **{}** | {named} | {} | {named_longest} |", numbers[0], numbers[1], numbers[2]);
+    fn print_longest(&self) {
+        let longest = self.rows().max_by(|a, b| a.ours.smallest.total_cmp(&b.ours.smallest)).unwrap();
+        println!("| `{}` | {} | {} |", self.library, digits(longest.ours.smallest), self.named(longest));
     }
 }
 
@@ -320,16 +371,18 @@ fn main() {
         translation.groups.push((title, rows.collect()));
     }
     let files = [("one state, no lines", one_state()), ("D", d([5, 6])), ("dense, 32 states, 8 inputs", dense(32, 8))];
-    let rows = files.map(|(name, table)| reading_row(name, table, repetitions, buffers)).into();
+    let rows = files.map(|(name, table)| reading_row(name, table, repetitions)).into();
     let groups = vec![("The file alone", rows)];
     let reading = Section { title: "Reading", library: "yotselina_check", yardstick: "plain.rs", facts: ["bytes", "lines"], groups };
 
     println!("# Figures\n");
     println!("One run of `bench/run`. Repetitions: {repetitions}; {}; processors: {processors}; load at the start: {load}.\n", arguments[2]);
-    println!("| library / yardstick | smallest ratio | largest ratio | worst table by ratio | longest µs | worst table by time |");
-    println!("|---|---|---|---|---|---|");
+    println!("| library / yardstick | tables, by the library's time | smallest ratio | largest ratio | worst table by ratio |");
+    println!("|---|---|---|---|---|");
     let sections = [verdict, translation, reading];
-    sections.iter().for_each(Section::print_worst);
+    sections.iter().for_each(Section::print_ratios);
+    println!("\n| library | longest µs | worst table by time |\n|---|---|---|");
+    sections.iter().for_each(Section::print_longest);
     sections.iter().for_each(Section::print);
     print_memory(buffers);
 }

@@ -1,11 +1,11 @@
-//! Reads a table file in plain Rust, for both yardsticks. The file must be valid: nothing is checked.
+//! Reads a table file in plain Rust, for all yardsticks. The file must be valid: nothing is checked.
 
 pub struct Transition {
     pub source: usize,
     pub target: usize,
     pub input: u8,
-    codes: [u8; 8],
-    count: usize,
+    pub codes: [u8; 8], // 0 behind the output
+    pub count: usize,
 }
 
 impl Transition {

@@ -1,4 +1,4 @@
-//! The yardstick of the verdict: the functionality test of document 000 (theorem 3.23, corollary 3.24) in plain Rust. It shows no witness.
+//! The first yardstick of the verdict: the functionality test of document 000 (theorem 3.23, corollary 3.24) in plain Rust. It shows no witness.
 
 use crate::plain::{read, Transducer, Transition};
 
