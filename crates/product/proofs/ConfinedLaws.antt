@@ -12,14 +12,14 @@ use lib.ListN.{length, getD, length-replicate}
 use Rattle.worklist.specs.Lists.{Worklist, Found, added, visited}
 use Rattle.worklist.specs.Search.{Blank, Rooted, Scanned, Expanded}
 use Rattle.worklist.proofs.Findings.{Lengths}
-use Rattle.worklist.proofs.Stages.{rooted-skip, rooted-visit, scanned-skip, scanned-visit, expanded}
+use Rattle.worklist.proofs.Stages.{rooted-skip, rooted-visit, scanned-skip, scanned-visit, scanned-join, expanded}
 use Rattle.transducer.proofs.Bools.{and-both}
 use Rattle.transducer.proofs.Facts.{in-below}
 use Rattle.transducer.specs.declared.StateSet.{StateSet}
-use Rattle.product.specs.Numbers.{mostPairs, noStep, PairIn}
-use Rattle.product.specs.Steps.{Steps, targetOf, First}
+use Rattle.product.specs.Numbers.{mostPairs, labelOf, PairIn}
+use Rattle.product.specs.Steps.{pastLast, RowFrom, Steps, targetOf}
 use Rattle.product.specs.Confined.{Allowed, offered, Begins, Goes, Ready}
-use Rattle.product.proofs.StepLaws.{step-low, target-low}
+use Rattle.product.proofs.StepLaws.{target-low, Past, past-row-after, past-last-row}
 
 -- two tests that hold do not fail together
 pub not-both : {a b : Bool} → a ≡ true → b ≡ true → (a && b) ≡ false → ⊥
@@ -30,10 +30,10 @@ pub blank-lengths : {s : Worklist} → Blank mostPairs s → Lengths mostPairs s
 blank-lengths b =
     record { order = b .order; rank = ap length (b .rank) ∙ length-replicate {A = ℕ} mostPairs 0; parent = b .parent; via = b .via }
 
--- in the loop over the steps of the pair at the place `head`: those with a label below `label` lead to pairs found
-abbrev pub Scan : StateSet → StateSet → List ℕ → List ℕ → List ℕ → Worklist → Worklist → ℕ → ℕ → Type 0
-Scan starts starts′ allowed left right s₀ s head label =
-    Scanned (Begins starts starts′ allowed) (Goes starts starts′ allowed left right) mostPairs s₀ s head 0 label
+-- in the loops over the steps of the pair at the place `head`: those with a label from `low` on and below `label` lead to pairs found
+abbrev pub Scan : StateSet → StateSet → List ℕ → List ℕ → List ℕ → Worklist → Worklist → ℕ → ℕ → ℕ → Type 0
+Scan starts starts′ allowed left right s₀ s head low label =
+    Scanned (Begins starts starts′ allowed) (Goes starts starts′ allowed left right) mostPairs s₀ s head low label
 
 module _ {starts starts′ : StateSet} {allowed : List ℕ} where
   -- the search begins at pairs
@@ -51,18 +51,45 @@ module _ {starts starts′ : StateSet} {allowed : List ℕ} where
       go false d e = rooted-visit 0 r h (record { start-pair = p; inside = omega (arith, eqb-false (getD allowed node 0) 0 d) }) e
 
   module _ {left right : List ℕ} where
-    -- it passes the labels before that of the first step
-    pub scanned-first : {s₀ s : Worklist} {head label r : ℕ} → Scan starts starts′ allowed left right s₀ s head label
-        → First left right (getD (s₀ .order) head 0) label noStep r → Scan starts starts′ allowed left right s₀ s head r
-    scanned-first {label = label} x f = scanned-skip x (λ k v a b g. f .least k a (omega (arith, f .most)) b (g .steps))
+    -- it passes labels that no step has
+    pub scanned-past : {s₀ s : Worklist} {head low label high : ℕ} → Scan starts starts′ allowed left right s₀ s head low label
+        → Past left right (getD (s₀ .order) head 0) label high → Scan starts starts′ allowed left right s₀ s head low high
+    scanned-past x p = scanned-skip x (λ k v a b g. p .none k a b (g .steps))
 
-    module _ {s₀ s : Worklist} {head label : ℕ} (r : Ready starts starts′ allowed left right s₀ head) (x : Scan starts starts′ allowed left right s₀ s head label) where
+    -- in the loops the search is ready still
+    pub ready-still : {s₀ s : Worklist} {head low label : ℕ} → Ready starts starts′ allowed left right s₀ head
+        → Scan starts starts′ allowed left right s₀ s head low label → Ready starts starts′ allowed left right s head
+    ready-still r x =
+        record {
+          lent = r .lent;
+          grown = x .grown;
+          roots = λ v b. x .extends .found v (r .roots v b);
+          place = omega (arith, r .place, x .extends .count);
+        }
+
+    -- the loop over the rows goes on, where that over the steps of the row has ended
+    pub scanned-row : {s₀ s s′ : Worklist} {head row′ : ℕ} (row : ℕ) → Ready starts starts′ allowed left right s₀ head
+        → Scan starts starts′ allowed left right s₀ s head 0 (labelOf row 0)
+        → Scan starts starts′ allowed left right s s′ head (labelOf row 0) (labelOf row pastLast)
+        → RowFrom left (getD (s₀ .order) head 0) (row + 1) row′
+        → Scan starts starts′ allowed left right s₀ s′ head 0 (labelOf row′ 0)
+    scanned-row row r x y f =
+        scanned-past (scanned-join (r .place) x y)
+        (past-row-after (r .lent .left-machine) (r .lent .right-machine) row pastLast (omega arith) (omega arith) f)
+
+    -- it ends
+    pub scanned-all : {s₀ s : Worklist} {head row : ℕ} → Ready starts starts′ allowed left right s₀ head
+        → Scan starts starts′ allowed left right s₀ s head 0 (labelOf row 0) → pastLast ≤ row
+        → Expanded (Begins starts starts′ allowed) (Goes starts starts′ allowed left right) mostPairs s₀ s head
+    scanned-all r x h = expanded x (λ l v g. past-last-row (r .lent .left-machine) (r .lent .right-machine) h (g .steps))
+
+    module _ {s₀ s : Worklist} {head low label : ℕ} (r : Ready starts starts′ allowed left right s₀ head) (x : Scan starts starts′ allowed left right s₀ s head low label) where
       -- it passes a step that leads to a node that is found
-      scanned-found : {node : ℕ} → targetOf left right (getD (s₀ .order) head 0) label ≡ node → Found s node → Scan starts starts′ allowed left right s₀ s head (label + 1)
+      scanned-found : {node : ℕ} → targetOf left right (getD (s₀ .order) head 0) label ≡ node → Found s node → Scan starts starts′ allowed left right s₀ s head low (label + 1)
       scanned-found {node} t f =
           record { grown = x .grown; extends = x .extends; done = λ l v hl hh g. go l v hl hh g (decLt l label) }
         where
-          go : (l v : ℕ) → 0 ≤ l → l < label + 1 → Goes starts starts′ allowed left right (getD (s₀ .order) head 0) l v → Dec (l < label) → Found s v
+          go : (l v : ℕ) → low ≤ l → l < label + 1 → Goes starts starts′ allowed left right (getD (s₀ .order) head 0) l v → Dec (l < label) → Found s v
           go l v hl hh g (yes b) = x .done l v hl b g
           go l v hl hh g (no b) =
               let same : l ≡ label = omega arith in
@@ -72,19 +99,20 @@ module _ {starts starts′ : StateSet} {allowed : List ℕ} where
               ap-target same e = rw (← t, ← same) e
 
       -- it offers the node to which the step leads
-      pub scanned-offer : {s′ : Worklist} {node : ℕ} → Steps left right (getD (s₀ .order) head 0) label
-          → targetOf left right (getD (s₀ .order) head 0) label ≡ node
-          → s′ ≡ offered allowed s node (head + 1) label → Scan starts starts′ allowed left right s₀ s′ head (label + 1)
-      scanned-offer {s′} {node} step t e = go (eqb (getD allowed node 0) 0) refl e (decLt 0 (getD (s .rank) node 0))
+      pub scanned-offer : {s′ : Worklist} {node k : ℕ} → Steps left right (getD (s₀ .order) head 0) label
+          → targetOf left right (getD (s₀ .order) head 0) label ≡ node → k ≡ label
+          → s′ ≡ offered allowed s node (head + 1) k → Scan starts starts′ allowed left right s₀ s′ head low (label + 1)
+      scanned-offer {s′} {node} step t q e =
+          go (eqb (getD allowed node 0) 0) refl (e ∙ ap (offered allowed s node (head + 1)) q) (decLt 0 (getD (s .rank) node 0))
         where
-          low : node < mostPairs
-          low = rw t at (target-low (r .lent .left-machine) (r .lent .right-machine) (r .grown .below head (r .place)) step)
+          inside-pairs : node < mostPairs
+          inside-pairs = rw t at (target-low (r .lent .left-machine) (r .lent .right-machine) (r .grown .below head (r .place)) step)
 
           only : (v : ℕ) → Goes starts starts′ allowed left right (getD (s₀ .order) head 0) label v → node ≡ v
           only v g = rw t at (g .target)
 
           go : (b : Bool) → eqb (getD allowed node 0) 0 ≡ b → s′ ≡ cond b s (visited s node (head + 1) label) → Dec (Found s node)
-              → Scan starts starts′ allowed left right s₀ s′ head (label + 1)
+              → Scan starts starts′ allowed left right s₀ s′ head low (label + 1)
           go true d e _ =
               rw e
               (scanned-skip x
@@ -95,7 +123,7 @@ module _ {starts starts′ : StateSet} {allowed : List ℕ} where
               rw (e ∙ ap (λ b. cond b (added s node (head + 1) label) s) (ne-eqb (getD (s .rank) node 0) 0 (λ z. omega arith))) (scanned-found t f)
           go false d e (no f) =
               let inside : Allowed allowed node = omega (arith, eqb-false (getD allowed node 0) 0 d) in
-              scanned-visit x refl (r .place) low
+              scanned-visit x refl (r .place) inside-pairs
               (record {
                 steps = step;
                 target = t;
@@ -103,7 +131,3 @@ module _ {starts starts′ : StateSet} {allowed : List ℕ} where
                 later = λ p. f (x .extends .found node (r .roots node (record { start-pair = p; inside = inside })));
               })
               only e
-
-      -- it ends
-      pub scanned-all : noStep ≤ label → Expanded (Begins starts starts′ allowed) (Goes starts starts′ allowed left right) mostPairs s₀ s head
-      scanned-all h = expanded x (λ l v g. omega (arith, step-low (r .lent .left-machine) (r .lent .right-machine) (g .steps)))

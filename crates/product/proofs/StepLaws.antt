@@ -1,25 +1,29 @@
--- Laws of the steps of a pair: how the loops along the transitions of a state go on, and how the first step is found, row by row. A row is the
--- steps that take one transition on the left side, or those in which the left side rests. Assumes nothing.
+-- Laws of the steps of a pair: how the loops along the transitions of a state go on; which steps a row has; and how a caller's two loops, over the rows
+-- and over the steps of a row, pass all labels in order. A row is the steps that take one transition on the left side, or those in which the left
+-- side rests. Assumes nothing.
 use mathlib.Core.Bool.{cond}
 use mathlib.Core.Path.{_≡_, refl, sym, ap, _∙_}
 use mathlib.Core.List.{List}
 use mathlib.Core.Logic.{_≢_}
-use Prim.Native.Nat.{ℕ, _+_, _*_, _/_, _%_, _≤_, _<_}
+use Prim.Native.Nat.{ℕ, _+_, _-_, _/_, _%_, _≤_, _<_}
 use native.Mathlib.Decide.{decLt, ℕ-discrete}
 use native.Mathlib.Omega.{arith}
 use borrow.Author.Tests.{eq-eqb, ne-eqb}
 use Rattle.transducer.specs.Limits.{mostStates}
 use Rattle.product.specs.Machine.{headOf, toOf, keyOf, nextOf, Leaves, Follows, Along, Machine}
-use Rattle.product.specs.Numbers.{noTransition, mostPairs, pairOf, firstOf, secondOf, sides, labelOf, Label, noStep}
-use Rattle.product.specs.Steps.{sideOf, rowLabel, Matches, Steps, targetOf, First}
+use Rattle.product.specs.Numbers.{noTransition, mostPairs, pairOf, firstOf, secondOf, sides, labelOf, Label}
+use Rattle.product.specs.Steps.{sideOf, rowKey, Keyed, pastLast, Least, RowFrom, Steps, targetOf, StepFrom}
 use Rattle.product.specs.Steps.Steps.{by-both, by-left, by-right}
 
 -- ---- along the transitions of a state
 
 module _ {m : List ℕ} (machine : Machine m) where
   -- a loop along the transitions that leave q begins with the first of them
+  pub head-follows : {q r : ℕ} → q < mostStates → r ≡ headOf m q → Follows m q 0 r
+  head-follows {q} h e = rw e (machine .heads q h)
+
   pub along-head : {q r : ℕ} → q < mostStates → r ≡ headOf m q → Along m q r
-  along-head {q} h e = let f = machine .heads q h in rw e record { most = f .most; leaves = f .leaves }
+  along-head h e = let f = head-follows h e in record { most = f .most; leaves = f .leaves }
 
   -- and goes on to the next
   pub next-follows : {q l r : ℕ} → Along m q l → l < noTransition → r ≡ nextOf m l → Follows m q (l + 1) r
@@ -61,183 +65,67 @@ module _ {m : List ℕ} (machine : Machine m) where
       go k a b y d (no c) (no g) f = f .least k (let z : k ≡ l → ⊥ = g in omega arith) b y
 
   -- it ends, where the key is found or no transition is left
-  pub seeking-found : {q key low l : ℕ} → Seeking q key low l → keyOf m l ≡ key → Matches m q key low l
-  seeking-found s e = record { above = s .above; most = s .most; leaves = s .leaves; same = λ h. e; least = s .least }
+  pub seeking-found : {q key low l : ℕ} → Seeking q key low l → l < noTransition → keyOf m l ≡ key → Least (Keyed m q key) low l
+  seeking-found s h e =
+      record { above = s .above; most = omega (arith, s .most); has = λ z. record { leaves = s .leaves h; same = e }; none = λ k a b x. s .least k a b (x .leaves) (x .same) }
 
-  pub seeking-none : {q key low l : ℕ} → Seeking q key low l → noTransition ≤ l → Matches m q key low l
-  seeking-none s h = record { above = s .above; most = s .most; leaves = s .leaves; same = λ z. absurd (omega arith); least = s .least }
+  pub seeking-none : {q key low l : ℕ} → Seeking q key low l → noTransition ≤ l → Least (Keyed m q key) low pastLast
+  seeking-none {q} {key} {low} {l} s h =
+      record {
+        above = omega (arith, s .above, s .most);
+        most = omega arith;
+        has = λ z. absurd (omega arith);
+        none = λ k a b x. s .least k a (omega (arith, x .leaves .used, machine .few)) (x .leaves) (x .same);
+      }
+
+  -- what comes before the first transition of a state, and what comes between two that follow each other, has no key
+  pub keyed-from : {q key low l r : ℕ} → Follows m q low l → Least (Keyed m q key) l r → Least (Keyed m q key) low r
+  keyed-from {q} {key} {low} {l} {r} f x =
+      record { above = omega (arith, f .above, x .above); most = x .most; has = x .has; none = λ k a b y. go k a b y (decLt k l) }
+    where
+      go : (k : ℕ) → low ≤ k → k < r → Keyed m q key k → Dec (k < l) → ⊥
+      go k a b y (yes c) = f .least k a c (y .leaves)
+      go k a b y (no c) = x .none k (omega arith) b y
+
+  -- the transitions that leave a state are rows, and the last row comes after them
+  row-follows : {q low r : ℕ} → Follows m q low r → Least (Along m q) low r
+  row-follows f =
+      record {
+        above = f .above;
+        most = omega (arith, f .most);
+        has = λ z. record { most = f .most; leaves = f .leaves };
+        none = λ l a b x. f .least l a b (x .leaves (omega (arith, f .most)));
+      }
+
+  -- the first row
+  pub row-head : {q r : ℕ} → q < mostStates → r ≡ headOf m q → Least (Along m q) 0 r
+  row-head h e = row-follows (head-follows h e)
+
+  -- the next row, and past the row in which the left side rests none
+  pub row-next : {q l r : ℕ} → Along m q l → l < noTransition → r ≡ nextOf m l → Least (Along m q) (l + 1) r
+  row-next a h e = row-follows (next-follows a h e)
+
+  pub row-end : {q l : ℕ} → l ≡ noTransition → Least (Along m q) (l + 1) pastLast
+  row-end e = record { above = omega arith; most = omega arith; has = λ z. absurd (omega arith); none = λ k a b x. omega (arith, x .most) }
 
 -- ---- the steps by their labels
 
-module _ {left right : List ℕ} (on-left : Machine left) (on-right : Machine right) where
-  -- a step has a label below 257 × 257 - 1
-  pub step-low : {u k : ℕ} → Steps left right u k → k < labelOf noTransition noTransition
-  step-low (by-both l m e x y i n) = omega (arith, x .used, y .used, on-left .few, on-right .few)
-  step-low (by-left l e x i) = omega (arith, x .used, on-left .few)
-  step-low (by-right m e y i) = omega (arith, y .used, on-right .few)
+-- where the left side takes l the right side steps beside its key
+pub key-taken : (m : List ℕ) (l : ℕ) → l < noTransition → rowKey m l ≡ keyOf m l
+unfolding rowKey
+key-taken m l h = rw (ne-eqb l noTransition (λ z. omega arith))
 
+-- where it rests, beside the key 0
+pub key-rests : (m : List ℕ) (l : ℕ) → l ≡ noTransition → rowKey m l ≡ 0
+unfolding rowKey
+key-rests m l e = rw (eq-eqb l noTransition e)
+
+module _ {left right : List ℕ} (on-left : Machine left) (on-right : Machine right) where
   -- the label of a step is one
   pub step-label : {u k : ℕ} → Steps left right u k → Label k
   step-label (by-both l m e x y i n) = (omega (arith, x .used, y .used, on-left .few, on-right .few), omega (arith, y .used, on-right .few))
   step-label (by-left l e x i) = (omega (arith, x .used, on-left .few), omega arith)
   step-label (by-right m e y i) = (omega (arith, y .used, on-right .few), omega (arith, y .used, on-right .few))
-
-  -- where no transition of the first state lies from `low` on and below l, no step has a label of those rows
-  pub gap : {u low l k : ℕ} → Follows left (firstOf u) low l → low * sides ≤ k → k < l * sides → Steps left right u k → ⊥
-  gap f a b (by-both l m e x y i n) = f .least l (omega (arith, y .used, on-right .few)) (omega arith) x
-  gap f a b (by-left l e x i) = f .least l (omega arith) (omega arith) x
-  gap f a b (by-right m e y i) = omega (arith, f .most)
-
-  -- what the left side does in the row of l: it takes l, whose key is not 0, or it rests, which counts as the key 0
-  pub data Row (u l key : ℕ) : Type 0 where
-    takes : Leaves left l (firstOf u) → keyOf left l ≡ key → key ≢ 0 → Row u l key
-    rests : l ≡ noTransition → key ≡ 0 → Row u l key
-
-  -- beside a transition of the second state that has the key there is a step
-  row-step : {u l key m : ℕ} → Row u l key → Leaves right m (secondOf u) → keyOf right m ≡ key → Steps left right u (labelOf l m)
-  row-step {l = l} {m = m} (takes x i n) y d = by-both l m refl x y (i ∙ sym d) (λ z. n (sym i ∙ z))
-  row-step {l = l} {m = m} (rests e z) y d = by-right m (ap (λ j. labelOf j m) e) y (d ∙ z)
-
-  -- what a step in this row takes on the right side
-  pub record Beside (u l key k : ℕ) : Type 0 where
-    pub m : ℕ
-    pub label : k ≡ labelOf l m
-    pub few : m < noTransition
-    pub leaves : Leaves right m (secondOf u)
-    pub same : keyOf right m ≡ key
-
-  -- there are no others
-  row-only : {u l key k : ℕ} → Row u l key → l ≤ noTransition → l * sides ≤ k → k < l * sides + sides → Steps left right u k → Beside u l key k
-  row-only {u} {l} {key} {k} (takes x i n) h a b (by-both l′ m e x′ y j z) =
-      let few : m < noTransition = omega (arith, y .used, on-right .few) in
-      let q : l ≡ l′ = omega arith in
-      record { m = m; label = omega arith; few = few; leaves = y; same = sym j ∙ sym (ap (keyOf left) q) ∙ i }
-  row-only {u} {l} {key} {k} (takes x i n) h a b (by-left l′ e x′ j) =
-      let q : l ≡ l′ = omega arith in
-      absurd (n (sym i ∙ ap (keyOf left) q ∙ j))
-  row-only (takes x i n) h a b (by-right m e y j) = absurd (omega (arith, x .used, on-left .few))
-  row-only (rests g z) h a b (by-both l′ m e x′ y j w) = absurd (omega (arith, x′ .used, y .used, on-left .few, on-right .few))
-  row-only (rests g z) h a b (by-left l′ e x′ j) = absurd (omega (arith, x′ .used, on-left .few))
-  row-only (rests g z) h a b (by-right m e y j) =
-      record { m = m; label = omega arith; few = omega (arith, y .used, on-right .few); leaves = y; same = j ∙ sym z }
-
-  -- the first step of a row from `low` on takes on the right side the first transition from there on that has the key
-  pub row-first : {u l key low m r : ℕ} → Row u l key → l ≤ noTransition → Matches right (secondOf u) key low m → r ≡ rowLabel l m
-      → First left right u (labelOf l low) (labelOf l sides) r
-  unfolding rowLabel
-  row-first {u} {l} {key} {low} {m} {r} row h x e = go (decLt m noTransition)
-    where
-      none : (k : ℕ) → labelOf l low ≤ k → k < labelOf l sides → k < labelOf l m → Steps left right u k → ⊥
-      none k a b c s =
-          let y = row-only row h (omega arith) b s in
-          x .least (y .m) (omega (arith, y .label)) (omega (arith, y .label)) (y .leaves) (y .same)
-
-      go : Dec (m < noTransition) → First left right u (labelOf l low) (labelOf l sides) r
-      go (yes c) =
-          let d = e ∙ ap (λ b. cond b noStep (labelOf l m)) (ne-eqb m noTransition (λ z. omega arith)) in
-          rw d
-          record {
-            most = omega (arith, h);
-            step = λ z. row-step row (x .leaves c) (x .same c);
-            above = λ z. omega (arith, x .above);
-            below = λ z. omega arith;
-            least = none;
-          }
-      go (no c) =
-          let d = e ∙ ap (λ b. cond b noStep (labelOf l m)) (eq-eqb m noTransition (omega (arith, x .most))) in
-          rw d
-          record {
-            most = omega arith;
-            step = λ z. absurd (omega arith);
-            above = λ z. absurd (omega arith);
-            below = λ z. absurd (omega arith);
-            least = λ k a b g s. let y = row-only row h (omega arith) b s in none k a b (omega (arith, y .label, y .few, x .most)) s;
-          }
-
-  -- a transition whose key is 0 steps alone: the one step of its row is the last
-  pub row-alone : {u l low : ℕ} → Leaves left l (firstOf u) → keyOf left l ≡ 0 → low ≤ noTransition
-      → First left right u (labelOf l low) (labelOf l sides) (labelOf l noTransition)
-  row-alone {u} {l} {low} x i h =
-      record {
-        most = omega (arith, x .used, on-left .few);
-        step = λ z. by-left l refl x i;
-        above = λ z. omega arith;
-        below = λ z. omega arith;
-        least = none;
-      }
-    where
-      none : (k : ℕ) → labelOf l low ≤ k → k < labelOf l sides → k < labelOf l noTransition → Steps left right u k → ⊥
-      none k a b c (by-both l′ m e x′ y j n) =
-          let few : m < noTransition = omega (arith, y .used, on-right .few) in
-          let q : l ≡ l′ = omega arith in
-          n (sym (ap (keyOf left) q) ∙ i)
-      none k a b c (by-left l′ e x′ j) = omega arith
-      none k a b c (by-right m e y j) = omega (arith, x .used, on-left .few)
-
-  -- ---- from row to row
-
-  -- no step has a label from `low` on and below `high`
-  pub record Past (u low high : ℕ) : Type 0 where
-    pub above : low ≤ high
-    pub none : (k : ℕ) → low ≤ k → k < high → Steps left right u k → ⊥
-
-  pub past-none : {u low : ℕ} → Past u low low
-  past-none = record { above = omega arith; none = λ k a b s. omega arith }
-
-  pub past-join : {u low middle high : ℕ} → Past u low middle → Past u middle high → Past u low high
-  past-join {u} {low} {middle} {high} p p′ = record { above = omega arith; none = λ k a b s. go k a b s (decLt k middle) }
-    where
-      go : (k : ℕ) → low ≤ k → k < high → Steps left right u k → Dec (k < middle) → ⊥
-      go k a b s (yes c) = p .none k a c s
-      go k a b s (no c) = p′ .none k (omega arith) b s
-
-  -- between the rows of two transitions that follow each other on the left side there is no step
-  pub past-rows : {u : ℕ} (l l′ : ℕ) {low high : ℕ} → Follows left (firstOf u) (l + 1) l′ → low ≡ labelOf l sides → high ≡ labelOf l′ 0 → Past u low high
-  past-rows l l′ f e d = record { above = omega (arith, f .above); none = λ k a b s. gap f (omega arith) (omega arith) s }
-
-  -- nor before the row of the first transition
-  pub past-head : {u : ℕ} (l : ℕ) → u < mostPairs → l ≡ headOf left (firstOf u) → Past u 0 (labelOf l 0)
-  past-head {u} l h e =
-      let f : Follows left (firstOf u) 0 l = rw e (on-left .heads (firstOf u) (omega arith)) in
-      record { above = omega arith; none = λ k a b s. gap f (omega arith) (omega arith) s }
-
-  -- in a row there is none between two transitions that follow each other on the right side
-  pub past-beside : {u low m start : ℕ} (l : ℕ) → Follows right (secondOf u) low m → l ≤ noTransition → start ≡ labelOf l low
-      → Past u start (labelOf l m)
-  past-beside {u} {low} {m} {start} l f h d = record { above = omega (arith, f .above); none = none }
-    where
-      none : (k : ℕ) → start ≤ k → k < labelOf l m → Steps left right u k → ⊥
-      none k a b (by-both l′ m′ e x y i n) =
-          let few : m′ < noTransition = omega (arith, y .used, on-right .few) in
-          f .least m′ (omega (arith, f .most)) (omega (arith, f .most)) y
-      none k a b (by-left l′ e x i) = omega (arith, f .most)
-      none k a b (by-right m′ e y i) =
-          let few : m′ < noTransition = omega (arith, y .used, on-right .few) in
-          f .least m′ (omega (arith, f .most)) (omega (arith, f .most)) y
-
-  -- what has no step may come before the first step
-  pub first-after : {u low middle high r : ℕ} → Past u low middle → First left right u middle high r → First left right u low high r
-  first-after {u} {low} {middle} {high} {r} p f =
-      record {
-        most = f .most;
-        step = f .step;
-        above = λ z. omega (arith, p .above, f .above z);
-        below = f .below;
-        least = λ k a b c s. go k a b c s (decLt k middle);
-      }
-    where
-      go : (k : ℕ) → low ≤ k → k < high → k < r → Steps left right u k → Dec (k < middle) → ⊥
-      go k a b c s (yes d) = p .none k a d s
-      go k a b c s (no d) = f .least k (omega arith) b c s
-
-  -- where there is no first step there is none
-  pub first-none : {u low high r : ℕ} → First left right u low high r → noStep ≤ r → low ≤ high → Past u low high
-  first-none f h b = record { above = b; none = λ k a c s. f .least k a c (omega (arith, step-low s)) s }
-
-  -- the first step is the first up to any bound
-  pub first-found : {u low high r : ℕ} → First left right u low high r → r < noStep → First left right u low noStep r
-  first-found f h =
-      record { most = f .most; step = f .step; above = f .above; below = λ z. z; least = λ k a b c s. f .least k a (omega (arith, f .below h)) c s }
 
   -- what a step takes on each side leaves that side's state
   pub step-left : {u k : ℕ} → Steps left right u k → Along left (firstOf u) (k / sides)
@@ -262,82 +150,129 @@ module _ {left right : List ℕ} (on-left : Machine left) (on-right : Machine ri
       let q : k % sides ≡ m = omega (arith, y .used, on-right .few) in
       rw q record { most = omega (arith, y .used, on-right .few); leaves = λ z. y }
 
-  -- the loop over the rows from l on is at the row of i: none before it has a step; m is the first transition on the right side
-  pub record Turn (u l m i : ℕ) : Type 0 where
-    pub pair : u < mostPairs
-    pub first : Follows right (secondOf u) 0 m
-    pub along : Along left (firstOf u) i
-    pub past : Past u (labelOf l 0) (labelOf i 0)
+  pub step-along : {u : ℕ} (l m : ℕ) → m ≤ noTransition → Steps left right u (labelOf l m) → Along right (secondOf u) m
+  step-along l m h s = let e : labelOf l m % sides ≡ m = omega arith in rw e at (step-right s)
 
-  -- it begins
-  pub turn-first : {u l m : ℕ} → u < mostPairs → Along left (firstOf u) l → m ≡ headOf right (secondOf u) → Turn u l m l
-  turn-first {u} h a e = record { pair = h; first = rw e (on-right .heads (secondOf u) (omega arith)); along = a; past = past-none }
+  -- ---- the steps of a row
 
-  -- the first step of the row of i is the first
-  pub turn-row : {u r : ℕ} (l m i : ℕ) → Turn u l m i → First left right u (labelOf i m) (labelOf i sides) r
-      → First left right u (labelOf l 0) (labelOf i sides) r
-  turn-row l m i t f = first-after (t .past) (first-after (past-beside i (t .first) (t .along .most) (omega arith)) f)
+  -- the row of l has steps beside the key: the left side takes l, whose key is not 0, or it rests, which counts as the key 0
+  pub data Row (u l key : ℕ) : Type 0 where
+    takes : Leaves left l (firstOf u) → keyOf left l ≡ key → key ≢ 0 → Row u l key
+    rests : l ≡ noTransition → key ≡ 0 → Row u l key
 
-  -- it goes on to the next row
-  pub turn-next : {u r i′ : ℕ} (l m i : ℕ) → Turn u l m i → First left right u (labelOf i m) (labelOf i sides) r → noStep ≤ r → i < noTransition
-      → i′ ≡ nextOf left i → Turn u l m i′
-  turn-next {i′ = i′} l m i t f h b e =
-      record {
-        pair = t .pair;
-        first = t .first;
-        along = along-next on-left (t .along) b e;
-        past =
-            past-join (first-none (turn-row l m i t f) h (omega (arith, t .past .above)))
-            (past-rows i i′ (next-follows on-left (t .along) b e) refl refl);
-      }
+  -- beside a transition of the second state that has the key there is a step
+  row-step : {u l key m : ℕ} → Row u l key → Keyed right (secondOf u) key m → Steps left right u (labelOf l m)
+  row-step {l = l} {m = m} (takes x i n) y = by-both l m refl x (y .leaves) (i ∙ sym (y .same)) (λ z. n (sym i ∙ z))
+  row-step {l = l} {m = m} (rests e z) y = by-right m (ap (λ j. labelOf j m) e) (y .leaves) (y .same ∙ z)
 
-  -- it ends with the row in which the left side rests
-  pub turn-last : {u r : ℕ} (l m i : ℕ) → Turn u l m i → First left right u (labelOf i m) (labelOf i sides) r → noTransition ≤ i
-      → First left right u (labelOf l 0) noStep r
-  turn-last l m i t f h =
-      let e : labelOf i sides ≡ noStep = omega (arith, t .along .most) in
-      rw e at (turn-row l m i t f)
+  -- and there are no others
+  row-only : {u key : ℕ} (l m : ℕ) → Row u l key → m ≤ noTransition → Steps left right u (labelOf l m) → Keyed right (secondOf u) key m
+  row-only {u} {key} l m (takes x i n) h (by-both l′ m′ e x′ y j z) =
+      let few : m′ < noTransition = omega (arith, y .used, on-right .few) in
+      let q : l ≡ l′ = omega arith in
+      let p : m ≡ m′ = omega arith in
+      rw p record { leaves = y; same = sym j ∙ sym (ap (keyOf left) q) ∙ i }
+  row-only l m (takes x i n) h (by-left l′ e x′ j) =
+      let q : l ≡ l′ = omega arith in
+      absurd (n (sym i ∙ ap (keyOf left) q ∙ j))
+  row-only l m (takes x i n) h (by-right m′ e y j) = absurd (omega (arith, x .used, on-left .few, y .used, on-right .few))
+  row-only l m (rests g z) h (by-both l′ m′ e x′ y j w) = absurd (omega (arith, x′ .used, y .used, on-left .few, on-right .few))
+  row-only l m (rests g z) h (by-left l′ e x′ j) = absurd (omega (arith, x′ .used, on-left .few))
+  row-only l m (rests g z) h (by-right m′ e y j) =
+      let few : m′ < noTransition = omega (arith, y .used, on-right .few) in
+      let p : m ≡ m′ = omega arith in
+      rw p record { leaves = y; same = j ∙ sym z }
 
-  -- the steps after a step in its row: none, where the right side rests, else those from the next transition on
-  pub rest-none : {u : ℕ} (label : ℕ) → label % sides ≡ noTransition → First left right u (label + 1) (labelOf (label / sides) sides) noStep
-  rest-none label h =
-      record {
-        most = omega arith;
-        step = λ z. absurd (omega arith);
-        above = λ z. absurd (omega arith);
-        below = λ z. absurd (omega arith);
-        least = λ k a b c s. omega arith;
-      }
-
-  pub rest-some : {u label m r : ℕ} → Steps left right u label → label % sides < noTransition → m ≡ nextOf right (label % sides)
-      → First left right u (labelOf (label / sides) m) (labelOf (label / sides) sides) r
-      → First left right u (label + 1) (labelOf (label / sides) sides) r
-  rest-some {label = label} s h e f =
-      first-after
-      (past-beside (label / sides) (next-follows on-right (step-right s) h e) (step-left s .most) (omega arith)) f
-
-  -- the steps after the row of a step: none where the left side rests, else those of the rows from the next transition on
-  pub after-last : {u r : ℕ} (label : ℕ) → First left right u (label + 1) (labelOf (label / sides) sides) r → noStep ≤ r → label / sides ≡ noTransition
-      → First left right u (label + 1) noStep noStep
-  after-last {r = r} label f h e =
-      let d : labelOf (label / sides) sides ≡ noStep = omega arith in
-      let g : r ≡ noStep = omega (arith, f .most) in
-      rw (d, g) at f
-
-  pub after-row : {u label l r r′ : ℕ} → Steps left right u label → First left right u (label + 1) (labelOf (label / sides) sides) r → noStep ≤ r
-      → label / sides < noTransition → l ≡ nextOf left (label / sides) → First left right u (labelOf l 0) noStep r′
-      → First left right u (label + 1) noStep r′
-  after-row {label = label} {l = l} s f h b e g =
-      first-after
-      (past-join (first-none f h (omega arith)) (past-rows (label / sides) l (next-follows on-left (step-left s) b e) refl refl)) g
-
-  -- the first step from `low` on has no lower label
-  pub first-rises : {u low r : ℕ} → First left right u low noStep r → low ≤ noStep → low ≤ r
-  first-rises {u} {low} {r} f h = go (decLt r noStep)
+  -- where the left side rests, or takes a transition whose key is not 0, the row has steps beside its key
+  pub row-beside : {u l key : ℕ} → Along left (firstOf u) l → key ≡ rowKey left l → (key ≡ 0 → l < noTransition → ⊥) → Row u l key
+  row-beside {u} {l} {key} a e n = go (decLt l noTransition)
     where
-      go : Dec (r < noStep) → low ≤ r
-      go (yes b) = f .above b
-      go (no b) = omega arith
+      go : Dec (l < noTransition) → Row u l key
+      go (yes h) = takes (a .leaves h) (sym (e ∙ key-taken left l h)) (λ z. n z h)
+      go (no h) = let q : l ≡ noTransition = omega (arith, a .most) in rests q (e ∙ key-rests left l q)
+
+  -- so it is where there is a step in which the right side does not rest
+  pub row-there : {u l key m : ℕ} → Along left (firstOf u) l → m < noTransition → Steps left right u (labelOf l m) → key ≡ rowKey left l → Row u l key
+  row-there {u} {l} {key} {m} a h s e = row-beside a e (λ z b. apart b (sym (key-taken left l b) ∙ sym e ∙ z) s)
+    where
+      apart : l < noTransition → keyOf left l ≡ 0 → Steps left right u (labelOf l m) → ⊥
+      apart b z (by-both l′ m′ d x y i n) =
+          let few : m′ < noTransition = omega (arith, y .used, on-right .few) in
+          let q : l ≡ l′ = omega arith in
+          n (sym (ap (keyOf left) q) ∙ z)
+      apart b z (by-left l′ d x i) = omega arith
+      apart b z (by-right m′ d y i) = omega (arith, y .used, on-right .few)
+
+  -- so that the first step of a row takes the first transition that has the key
+  pub row-first : {u l key low r : ℕ} → Row u l key → Least (Keyed right (secondOf u) key) low r → StepFrom left right u l low r
+  row-first {u} {l} {key} {low} {r} row x =
+      record {
+        above = x .above;
+        most = x .most;
+        has = λ z. row-step row (x .has z);
+        none = λ m a b s. x .none m a b (row-only l m row (omega (arith, x .most)) s);
+      }
+
+  -- a transition whose key is 0 steps alone: the one step of its row is the last
+  pub row-alone : {u l : ℕ} → Leaves left l (firstOf u) → keyOf left l ≡ 0 → StepFrom left right u l 0 noTransition
+  row-alone {u} {l} x i = record { above = omega arith; most = omega arith; has = λ z. by-left l refl x i; none = none }
+    where
+      none : (m : ℕ) → 0 ≤ m → m < noTransition → Steps left right u (labelOf l m) → ⊥
+      none m a b (by-both l′ m′ e x′ y j n) =
+          let few : m′ < noTransition = omega (arith, y .used, on-right .few) in
+          let q : l ≡ l′ = omega arith in
+          n (sym (ap (keyOf left) q) ∙ i)
+      none m a b (by-left l′ e x′ j) = omega arith
+      none m a b (by-right m′ e y j) = omega (arith, x .used, on-left .few, y .used, on-right .few)
+
+  -- after the step in which the right side rests the row has none
+  pub row-over : {u m : ℕ} (l : ℕ) → m ≡ noTransition → StepFrom left right u l (m + 1) pastLast
+  row-over l e = record { above = omega arith; most = omega arith; has = λ z. absurd (omega arith); none = λ k a b s. omega arith }
+
+-- ---- a caller's two loops
+
+module _ (left right : List ℕ) where
+  -- no step of u has a label from `low` on and below `high`
+  pub record Past (u low high : ℕ) : Type 0 where
+    pub above : low ≤ high
+    pub none : (k : ℕ) → low ≤ k → k < high → Steps left right u k → ⊥
+
+module _ {left right : List ℕ} where
+  pub past-none : {u low high : ℕ} → low ≡ high → Past left right u low high
+  past-none e = record { above = omega arith; none = λ k a b s. omega arith }
+
+  pub past-join : {u low middle high : ℕ} → Past left right u low middle → Past left right u middle high → Past left right u low high
+  past-join {u} {low} {middle} {high} p p′ = record { above = omega (arith, p .above, p′ .above); none = λ k a b s. go k a b s (decLt k middle) }
+    where
+      go : (k : ℕ) → low ≤ k → k < high → Steps left right u k → Dec (k < middle) → ⊥
+      go k a b s (yes c) = p .none k a c s
+      go k a b s (no c) = p′ .none k (omega arith) b s
+
+  -- the loop over the steps of a row begins, and goes on: no step of the row comes before the first from `low` on
+  pub past-steps : {u r start : ℕ} (row low : ℕ) → StepFrom left right u row low r → start ≡ labelOf row low → Past left right u start (labelOf row r)
+  past-steps {u} {r} {start} row low f e = record { above = omega (arith, f .above); none = λ k a b s. go k (k - labelOf row 0) a b s (omega arith) }
+    where
+      go : (k m : ℕ) → start ≤ k → k < labelOf row r → Steps left right u k → k ≡ labelOf row m → ⊥
+      go k m a b s d = f .none m (omega arith) (omega arith) (rw d at s)
+
+  module _ (on-left : Machine left) (on-right : Machine right) where
+    -- the loop over the rows begins
+    pub past-first-row : {u r : ℕ} → RowFrom left u 0 r → Past left right u 0 (labelOf r 0)
+    past-first-row f =
+        record { above = omega arith; none = λ k a b s. f .none (k / sides) (omega arith) (omega arith) (step-left on-left on-right s) }
+
+    -- it goes on, where the loop over the steps of the row has ended
+    pub past-row-after : {u r : ℕ} (row m : ℕ) → pastLast ≤ m → m ≤ pastLast → RowFrom left u (row + 1) r → Past left right u (labelOf row m) (labelOf r 0)
+    past-row-after {u} {r} row m h h′ f =
+        record { above = omega (arith, f .above); none = λ k a b s. go k a b s (decLt (k / sides) (row + 1)) }
+      where
+        go : (k : ℕ) → labelOf row m ≤ k → k < labelOf r 0 → Steps left right u k → Dec (k / sides < row + 1) → ⊥
+        go k a b s (yes c) = omega (arith, step-right on-left on-right s .most)
+        go k a b s (no c) = f .none (k / sides) (omega arith) (omega arith) (step-left on-left on-right s)
+
+    -- when it ends all steps have a lower label
+    pub past-last-row : {u k row : ℕ} → pastLast ≤ row → Steps left right u k → k < labelOf row 0
+    past-last-row h s = omega (arith, step-label on-left on-right s .0)
 
 -- ---- where a step leads
 
@@ -349,6 +284,15 @@ side-takes m q l h = rw (ne-eqb l noTransition (λ z. omega arith))
 side-rests : (m : List ℕ) (q : ℕ) → sideOf m q noTransition ≡ q
 unfolding sideOf
 side-rests m q = refl
+
+-- where the step leads that takes l on the left side and m on the right
+pub target-sides : (left right : List ℕ) (u l m : ℕ) → m ≤ noTransition
+    → targetOf left right u (labelOf l m) ≡ pairOf (sideOf left (firstOf u) l) (sideOf right (secondOf u) m)
+unfolding targetOf
+target-sides left right u l m h =
+    let a : labelOf l m / sides ≡ l = omega arith in
+    let b : labelOf l m % sides ≡ m = omega arith in
+    rw (a, b)
 
 module _ (left right : List ℕ) (u k : ℕ) where
   pub target-both : (l m : ℕ) → k ≡ labelOf l m → l < noTransition → m < noTransition → targetOf left right u k ≡ pairOf (toOf left l) (toOf right m)

@@ -1,28 +1,40 @@
--- The steps of a pair of states, one of each of two machines, and the first of them from a label on.
+-- The steps of a pair of states, one of each of two machines, and their order: row by row, and in a row step by step.
 use mathlib.Core.Bool.{cond}
 use mathlib.Core.Path.{_≡_}
 use mathlib.Core.List.{List}
 use mathlib.Core.Logic.{_≢_}
-use Prim.Native.Nat.{ℕ, _/_, _%_, _≤_, _<_}
+use Prim.Native.Nat.{ℕ, _+_, _/_, _%_, _≤_, _<_}
 use lib.Dec.{eqb}
-use Rattle.product.specs.Machine.{toOf, keyOf, Leaves}
-use Rattle.product.specs.Numbers.{noTransition, pairOf, firstOf, secondOf, sides, labelOf, noStep}
+use Rattle.product.specs.Machine.{toOf, keyOf, Leaves, Along}
+use Rattle.product.specs.Numbers.{noTransition, pairOf, firstOf, secondOf, sides, labelOf}
 
 -- the state that a side enters which is in the state q and takes l
 unfoldable pub sideOf : List ℕ → ℕ → ℕ → ℕ
 sideOf m q l = cond (eqb l noTransition) q (toOf m l)
 
--- the label of l beside m, where m is a transition
-unfoldable pub rowLabel : ℕ → ℕ → ℕ
-rowLabel l m = cond (eqb m noTransition) noStep (labelOf l m)
+-- the key beside which the right side steps where the left side takes l: its key, or 0 where it rests
+unfoldable pub rowKey : List ℕ → ℕ → ℕ
+rowKey m l = cond (eqb l noTransition) 0 (keyOf m l)
 
--- r is the first transition from `low` on that leaves q and has the key, or there is none, and r is 256
-pub record Matches (m : List ℕ) (q key low r : ℕ) : Type 0 where
+-- l is a transition that leaves q and has the key
+pub record Keyed (m : List ℕ) (q key l : ℕ) : Type 0 where
+  pub leaves : Leaves m l q
+  pub same : keyOf m l ≡ key
+
+-- past the last row of a pair, and past the last step of a row
+abbrev pub pastLast : ℕ
+pastLast = noTransition + 1
+
+-- r is the least number from `low` on that has P, or there is none up to 256, and r is 257
+pub record Least (P : ℕ → Type 0) (low r : ℕ) : Type 0 where
   pub above : low ≤ r
-  pub most : r ≤ noTransition
-  pub leaves : r < noTransition → Leaves m r q
-  pub same : r < noTransition → keyOf m r ≡ key
-  pub least : (l : ℕ) → low ≤ l → l < r → Leaves m l q → keyOf m l ≡ key → ⊥
+  pub most : r ≤ pastLast
+  pub has : r < pastLast → P r
+  pub none : (n : ℕ) → low ≤ n → n < r → P n → ⊥
+
+-- r is the first row of u from `low` on, or 257: a transition that leaves the first state, or 256, with which the left side rests
+abbrev pub RowFrom : List ℕ → ℕ → ℕ → ℕ → Type 0
+RowFrom left u low r = Least (Along left (firstOf u)) low r
 
 module _ (left right : List ℕ) where
   -- the pair u has a step with the label k: a transition on each side with the same key, or one alone whose key is 0
@@ -36,10 +48,6 @@ module _ (left right : List ℕ) where
   unfoldable pub targetOf : ℕ → ℕ → ℕ
   targetOf u k = pairOf (sideOf left (firstOf u) (k / sides)) (sideOf right (secondOf u) (k % sides))
 
-  -- r is the least label of a step of u from `low` on and below `high`, or there is none, and r is 257 × 257
-  pub record First (u low high r : ℕ) : Type 0 where
-    pub most : r ≤ noStep
-    pub step : r < noStep → Steps u r
-    pub above : r < noStep → low ≤ r
-    pub below : r < noStep → r < high
-    pub least : (k : ℕ) → low ≤ k → k < high → k < r → Steps u k → ⊥
+  -- r is the first step of u in the row from `low` on, or 257: what the right side takes
+  abbrev pub StepFrom : ℕ → ℕ → ℕ → ℕ → Type 0
+  StepFrom u row low r = Least (λ m. Steps u (labelOf row m)) low r
