@@ -3,3 +3,4 @@ pub mod Visited
 pub mod Stages
 pub mod WayBack
 pub mod Findings
+pub mod AllFound
