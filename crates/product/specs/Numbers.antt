@@ -23,14 +23,15 @@ firstOf v = v / mostStates
 abbrev pub secondOf : ℕ → ℕ
 secondOf v = v % mostStates
 
--- a side that takes no transition in a step counts as transition 256, so that a side has 257 numbers
+-- a side that takes no transition in a step counts as transition 256
 abbrev pub noTransition : ℕ
 noTransition = mostTransitions
 
+-- a side has 512 numbers, of which it uses 257: a power of two
 abbrev pub sides : ℕ
-sides = mostTransitions + 1
+sides = 2 * mostTransitions
 
--- the label of the step that takes l on the left side and m on the right is 257 l + m
+-- the label of the step that takes l on the left side and m on the right is 512 l + m
 abbrev pub labelOf : ℕ → ℕ → ℕ
 labelOf l m = l * sides + m
 
