@@ -6,12 +6,13 @@ use mathlib.Core.List.{List}
 use Prim.Native.Nat.{ℕ, _+_, _≤_, _<_}
 use native.Mathlib.Decide.{decLt}
 use native.Mathlib.Omega.{arith}
-use borrow.Author.Tests.{ne-eqb, eqb-true, eqb-false}
-use lib.Dec.{eqb}
+use borrow.Author.Tests.{ne-eqb, eqb-true, eqb-false, lt-ltb}
+use lib.Dec.{eqb, ltb}
 use lib.ListN.{length, getD, length-replicate}
-use Rattle.worklist.specs.Lists.{Worklist, Found, added, visited}
-use Rattle.worklist.specs.Search.{Blank, Rooted, Scanned, Expanded}
-use Rattle.worklist.proofs.Findings.{Lengths}
+use Rattle.worklist.specs.Lists.{Worklist, Found, nonZeros, added, visited}
+use Rattle.worklist.specs.Search.{Blank, Rooted, Scanned, Expanded, Working, Exact}
+use Rattle.worklist.proofs.Findings.{Lengths, exact}
+use Rattle.worklist.proofs.AllFound.{all-found, found-within, working-all}
 use Rattle.worklist.proofs.Stages.{rooted-skip, rooted-visit, scanned-skip, scanned-visit, scanned-join, expanded}
 use Rattle.transducer.proofs.Bools.{and-both}
 use Rattle.transducer.proofs.Facts.{in-below}
@@ -82,6 +83,20 @@ module _ {starts starts′ : StateSet} {allowed : List ℕ} where
         → Scan starts starts′ allowed left right s₀ s head 0 (labelOf row 0) → pastLast ≤ row
         → Expanded (Begins starts starts′ allowed) (Goes starts starts′ allowed left right) mostPairs s₀ s head
     scanned-all r x h = expanded x (λ l v g. past-last-row (r .lent .left-machine) (r .lent .right-machine) h (g .steps))
+
+    -- the loop over the places ends, where none is left or all allowed pairs are found
+    pub search-ends : {s : Worklist} {head most : ℕ} → Working (Begins starts starts′ allowed) (Goes starts starts′ allowed left right) mostPairs s head
+        → most ≡ nonZeros allowed → (ltb head (s .count) && ltb (s .count) most) ≡ false
+        → Exact (Begins starts starts′ allowed) (Goes starts starts′ allowed left right) mostPairs s
+    search-ends {s} {head} {most} w e t = go (decLt head (s .count)) (decLt (s .count) most)
+      where
+        go : Dec (head < s .count) → Dec (s .count < most) → Exact (Begins starts starts′ allowed) (Goes starts starts′ allowed left right) mostPairs s
+        go (yes a) (yes b) = absurd (not-both (lt-ltb _ _ a) (lt-ltb _ _ b) t)
+        go (yes a) (no b) =
+            let within = found-within allowed (w .grown) (λ v b. b .inside) (λ u l v g. g .inside) in
+            let all = all-found allowed (w .grown) within (omega arith) in
+            exact (working-all w (λ u l v g. all v (g .inside))) (omega arith)
+        go (no a) _ = exact w (omega arith)
 
     module _ {s₀ s : Worklist} {head low label : ℕ} (r : Ready starts starts′ allowed left right s₀ head) (x : Scan starts starts′ allowed left right s₀ s head low label) where
       -- it passes a step that leads to a node that is found
