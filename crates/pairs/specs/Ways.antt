@@ -49,6 +49,28 @@ pub record WaysOut (t : Transducer) (r : UsefulPairs) (out out-step : List ℕ) 
   pub pairs : UsefulPairsOf t r
   pub way-out : Way t (t .finals) (MovesBack t) out out-step (r .count)
 
+-- the link of the pair at the place i of `order` leads nowhere, or to the pair at an earlier place
+pub data Back (link order : List ℕ) (i : ℕ) : Type 0 where
+  stops : getD link (getD order i 0) 0 ≡ 0 → Back link order i
+  goes : (j : ℕ) → j < i → getD link (getD order i 0) 0 ≡ getD order j 0 + 1 → Back link order i
+
+-- the first `count` places of `order` have the useful pairs in the order in which they were found
+pub record Discovered (t : Transducer) (link order : List ℕ) (count : ℕ) : Type 0 where
+  -- there is a place for each pair of states
+  pub long : length order ≡ mostPairs
+  -- there are at most 1,024 useful pairs
+  pub few : count ≤ mostPairs
+  -- what stands at a place is a pair
+  pub low : (i : ℕ) → i < count → getD order i 0 < mostPairs
+  -- it is useful
+  pub useful : (i : ℕ) → i < count → Useful t (getD order i 0)
+  -- it stands at no other place
+  pub apart : (i k : ℕ) → i < k → k < count → getD order i 0 ≢ getD order k 0
+  -- its link leads back
+  pub back : (i : ℕ) → i < count → Back link order i
+  -- each useful pair has a place
+  pub place : (v : ℕ) → Useful t v → (i : ℕ) × (i < count) × (getD order i 0 ≡ v)
+
 -- for each useful pair a way in, backwards from it to two start states; u is how many there are
 abbrev pub WayIn : Transducer → ℕ → List ℕ → List ℕ → Type 0
 WayIn t u into into-step = Way t (t .starts) (Moves t) into into-step u

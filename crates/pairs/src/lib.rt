@@ -1,5 +1,6 @@
 // Useful pairs of states (document 01, "Useful states and useful pairs"), and the ways into and out of them. The contracts cite
-// specs/UsefulPairs.antt: `UsefulPairsOf`, what `useful_pairs` answers; and specs/Ways.antt: `WaysOut` and `WayIn`, what `ways_out` and `ways_in` leave.
+// specs/UsefulPairs.antt: `UsefulPairsOf`, what `useful_pairs` answers; and specs/Ways.antt: `WaysOut`,
+// `Discovered` and `WayIn`, what `ways_out` and `ways_in` leave.
 ghost use mathlib.Core.Bool.{false, cond};
 ghost use mathlib.Core.Path.{_≡_};
 ghost use Prim.Native.Nat.{_-_, _≤_, _<_};
@@ -10,7 +11,7 @@ ghost use Rattle.transducer.specs.Valid.{Valid};
 ghost use Rattle.product.specs.Machine.{ImageOf};
 ghost use Rattle.product.specs.Numbers.{mostPairs};
 ghost use Rattle.pairs.specs.UsefulPairs.{hasPair, noPairs, pairsOf, UsefulPairsOf};
-ghost use Rattle.pairs.specs.Ways.{MovesBack, Tree, WaysOut, WayIn, linkOf, Traced, Linked, Marked};
+ghost use Rattle.pairs.specs.Ways.{MovesBack, Tree, WaysOut, Discovered, WayIn, linkOf, Traced, Linked, Marked};
 use product::machine;
 use product::machine::PLACES;
 use product::search;
@@ -78,24 +79,33 @@ pub fn useful_pairs(t: Transducer) -> UsefulPairs
     machine::by_input(t, &mut m);
     let mut out = [0u16; PAIRS];
     let mut out_step = [0u32; PAIRS];
-    ways_out(t, &m, &mut out, &mut out_step)
+    let mut order = [0u32; PAIRS];
+    ways_out(t, &m, &mut out, &mut out_step, &mut order)
 }
 
 // The useful pairs of t, which keeps the rules and whose machine is m, and for each a way out, as links: at a useful pair i, out[i] is 0 where i is a
-// pair of final states, else 1 + the pair after it, and out_step[i] the label of the step from i to there.
-pub fn ways_out(t: Transducer, m: &[u16], out: &mut [u16], out_step: &mut [u32]) -> UsefulPairs
+// pair of final states, else 1 + the pair after it, and out_step[i] the label of the step from i to there. `order` has the useful pairs in the order
+// in which they were found: each after the one to which its link leads.
+pub fn ways_out(
+    t: Transducer,
+    m: &[u16],
+    out: &mut [u16],
+    out_step: &mut [u32],
+    order: &mut [u32],
+) -> UsefulPairs
     requires { ⌜ Valid t ⌝ }
     requires { ⌜ ImageOf t false (now m) ⌝ }
     requires { ⌜ length (now out) ≡ mostPairs ⌝ }
     requires { ⌜ length (now «out_step») ≡ mostPairs ⌝ }
+    requires { ⌜ length (now order) ≡ mostPairs ⌝ }
     ensures { λ r. ⌜ WaysOut t r (now (out .exit)) (now («out_step» .exit)) ⌝ }
+    ensures { λ r. ⌜ Discovered t (now (out .exit)) (now (order .exit)) (r .count) ⌝ }
 {
-    let mut order = [0u32; PAIRS];
     let mut rank = [0u32; PAIRS];
     let mut parent = [0u32; PAIRS];
     let mut via = [0u32; PAIRS];
-    let count = search_back(t, m, &mut order, &mut rank, &mut parent, &mut via);
-    links(&order, &parent, &via, count, out, out_step);
+    let count = search_back(t, m, order, &mut rank, &mut parent, &mut via);
+    links(order, &parent, &via, count, out, out_step);
     let set = found(&rank);
     UsefulPairs {
         outcome: Outcome::Found,
