@@ -113,8 +113,9 @@ fn examine(
     machine::by_input(t, &mut m);
     let mut out = [0u16; PAIRS];
     let mut out_step = [0u32; PAIRS];
+    let mut order = [0u32; PAIRS];
     let mut steps = [0u32; STEPS];
-    let found = pairs::ways_out(t, &m, &mut out, &mut out_step);
+    let found = pairs::ways_out(t, &m, &mut out, &mut out_step, &mut order);
     match equations::search(t, &m, found, &out, &out_step, &mut steps) {
         Found::Nothing => quiet(Outcome::Functional, found.count),
         Found::At(start, end) => {

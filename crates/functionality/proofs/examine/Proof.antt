@@ -24,8 +24,11 @@ slice-aggregate-ways-out-2 c = search needs
 slice-aggregate-ways-out-3 : tie.Need-slice-aggregate-ways-out-3
 slice-aggregate-ways-out-3 c = search needs
 
+slice-aggregate-ways-out-4 : tie.Need-slice-aggregate-ways-out-4
+slice-aggregate-ways-out-4 c = search needs
+
 ways-out-requires : tie.Need-ways-out-requires
-ways-out-requires c κs = (valid-exactly _ .0 (c .before .before .before .before .before .before .before .before .before .before .before .pre .0), (c .before .before .before .before .by-input .ensures, (refl, refl)))
+ways-out-requires c κs = (valid-exactly _ .0 (c .before .before .before .before .before .before .before .before .before .before .before .before .pre .0), (c .before .before .before .before .before .by-input .ensures, (refl, (refl, refl))))
 
 slice-aggregate-search : tie.Need-slice-aggregate-search
 slice-aggregate-search c = search needs
@@ -41,9 +44,9 @@ slice-aggregate-search-4 c = search needs
 
 search-requires : tie.Need-search-requires
 search-requires c κs =
-    let w = c .before .before .before .before .before .before .ways-out in (
-      record { valid = c .before .before .before .before .before .before .before .before .before .before .before .before .before .before .before .before .before .before .pre .0; ways = w .ensures; long-out = w .kept .1 .1 .0; long-out-step = w .kept .1 .1 .1 .0 },
-      (c .before .before .before .before .before .before .before .before .before .before .before .by-input .ensures, refl),
+    let w = c .before .before .before .before .before .before .before .ways-out in (
+      record { valid = c .before .before .before .before .before .before .before .before .before .before .before .before .before .before .before .before .before .before .before .before .pre .0; ways = w .ensures .0; long-out = w .kept .1 .1 .0; long-out-step = w .kept .1 .1 .1 .0 },
+      (c .before .before .before .before .before .before .before .before .before .before .before .before .before .by-input .ensures, refl),
     )
 
 enum-told : tie.Need-enum-told
@@ -69,16 +72,16 @@ part-show-end c = (found-at _ (c .before .before .start .given .1) (c .before .b
 
 show-requires : tie.Need-show-requires
 show-requires c κs =
-    let a = c .before .before .before .before .before .before .before .before .before .before .before .before .before .before .before .before .before .before .before .before .before .before .before .before .before .before .before .before .before .before in
+    let a = c .before .before .before .before .before .before .before .before .before .before .before .before .before .before .before .before .before .before .before .before .before .before .before .before .before .before .before .before .before .before .before .before in
     let f = found-at _ (c .before .before .before .before .before .before .before .before .start .given .1) (c .before .before .before .before .before .before .before .before .before .before .before .search .ensures) in
-    let few = at-most-pairs (c .before .before .before .before .before .before .before .before .before .before .before .before .before .before .before .before .before .before .ways-out .ensures .pairs) in
+    let few = at-most-pairs (c .before .before .before .before .before .before .before .before .before .before .before .before .before .before .before .before .before .before .before .ways-out .ensures .0 .pairs) in
     (record { valid = valid-exactly _ .0 (a .pre .0); whole = f .whole; short = omega (arith, f .short, few) }, (f .differ, full _ (a .pre .1)))
 
 returns : tie.Need-returns
 returns c =
-    let a = c .before .before .before .before .before .before .before .before .before .before .before .before .before .before .before .before .before .before .before .before .before .before .before in
+    let a = c .before .before .before .before .before .before .before .before .before .before .before .before .before .before .before .before .before .before .before .before .before .before .before .before .before in
     let k = found-nothing _ _ _ (c .before .enum-told .given .1) (c .before .before .before .before .search .ensures) in
-    rw (c .quiet .ensures) (decides-single (refusal-none _ _ (a .pre .0) (a .pre .1)) (counted (a .pre .0) (c .before .before .before .before .before .before .before .before .before .before .before .ways-out .ensures .pairs)) k)
+    rw (c .quiet .ensures) (decides-single (refusal-none _ _ (a .pre .0) (a .pre .1)) (counted (a .pre .0) (c .before .before .before .before .before .before .before .before .before .before .before .before .ways-out .ensures .0 .pairs)) k)
 
 same-length : tie.Need-same-length
 same-length c = search needs
@@ -97,9 +100,9 @@ same-length-5 c = search needs
 
 returns-2 : tie.Need-returns-2
 returns-2 c =
-    let a = c .before .before .before .before .before .before .before .before .before .before .before .before .before .before .before .before .before .before .before .before .before .before .before .before .before .before .before .before .before .before .before .before .before .before .before .before .before .before .before .before .before in
+    let a = c .before .before .before .before .before .before .before .before .before .before .before .before .before .before .before .before .before .before .before .before .before .before .before .before .before .before .before .before .before .before .before .before .before .before .before .before .before .before .before .before .before .before .before in
     let f = found-at _ (c .before .before .before .before .before .before .before .before .before .before .before .before .before .before .before .before .before .before .before .start .given .1) (c .before .before .before .before .before .before .before .before .before .before .before .before .before .before .before .before .before .before .before .before .before .before .search .ensures) in
-    decides-split (refusal-none _ _ (a .pre .0) (a .pre .1)) (counted (a .pre .0) (c .before .before .before .before .before .before .before .before .before .before .before .before .before .before .before .before .before .before .before .before .before .before .before .before .before .before .before .before .before .ways-out .ensures .pairs)) (showing-within (f .short) (c .before .before .before .before .before .before .before .before .before .before .show .ensures))
+    decides-split (refusal-none _ _ (a .pre .0) (a .pre .1)) (counted (a .pre .0) (c .before .before .before .before .before .before .before .before .before .before .before .before .before .before .before .before .before .before .before .before .before .before .before .before .before .before .before .before .before .before .ways-out .ensures .0 .pairs)) (showing-within (f .short) (c .before .before .before .before .before .before .before .before .before .before .show .ensures))
 
 pub examine-spec : {M : Type 1} → statement M
 examine-spec =
@@ -110,6 +113,7 @@ examine-spec =
     slice-aggregate-ways-out
     slice-aggregate-ways-out-2
     slice-aggregate-ways-out-3
+    slice-aggregate-ways-out-4
     ways-out-requires
     slice-aggregate-search
     slice-aggregate-search-2
