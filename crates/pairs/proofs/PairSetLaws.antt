@@ -8,10 +8,11 @@ use mathlib.Core.Logic.{_↔_}
 use Prim.Native.Nat.{ℕ, zero, suc, _+_, _≤_, _<_}
 use native.Mathlib.Decide.{decLt}
 use native.Mathlib.Omega.{arith}
+use borrow.Author.Count.{below-more}
 use borrow.Author.Tests.{lt-ltb, ltb-true}
 use lib.Dec.{ltb}
-use lib.ListN.{length, getD, replicate, length-map, length-replicate, List·getD-map, List·getD-eq-default}
-use lib.Seq.{ext-getD}
+use lib.ListN.{length, getD, set, replicate, length-set, length-map, length-replicate, List·getD-map, List·getD-eq-default}
+use lib.Seq.{getD-set-same, getD-set-other, ext-getD}
 use Rattle.worklist.specs.Lists.{Worklist, Found, zeros}
 use Rattle.transducer.specs.Limits.{mostStates}
 use Rattle.transducer.specs.Valid.{Valid, validOf}
@@ -23,8 +24,8 @@ use Rattle.transducer.proofs.Facts.{valid-exactly}
 use Rattle.transducer.proofs.AlikeLaws.{alike-useful-pair}
 use Rattle.product.specs.Confined.{Allowed}
 use Rattle.product.specs.Numbers.{mostPairs, pairOf, firstOf, secondOf}
-use Rattle.pairs.specs.UsefulPairs.{hasPair, noPairs, pairsOf, countTrue, numberOf, UsefulPairsOf}
-use Rattle.pairs.specs.Ways.{Useful, Tree, Marked}
+use Rattle.pairs.specs.UsefulPairs.{hasPair, isMember, noPairs, pairsOf, countTrue, numberOf, UsefulPairsOf}
+use Rattle.pairs.specs.Ways.{Useful, Tree, bothBelow, Marked}
 use Rattle.pairs.specs.declared.Outcome.{Outcome}
 use Rattle.pairs.specs.declared.PairSet.{PairSet}
 use Rattle.pairs.specs.declared.UsefulPairs.{UsefulPairs}
@@ -169,8 +170,30 @@ alike-useful-pairs alike valid valid′ a a′ =
     })
     a′
 
+-- ---- the lists by which the searches are confined
+
+-- the number of one pair more is written
+pub marked-more : {test : ℕ → Bool} {numbers : List ℕ} {i x : ℕ} → i < mostPairs → x ≡ cond (test i) 1 0 → Marked test numbers i
+    → Marked test (set numbers i x) (i + 1)
+marked-more {numbers = numbers} {i} {x} h e m =
+    record {
+      long = length-set numbers i x ∙ m .long;
+      tested =
+          below-more _ i (λ k hk. getD-set-other numbers i k x 0 (λ z. omega arith) ∙ m .tested k hk)
+          (getD-set-same numbers i x 0 (omega (arith, m .long)) ∙ e);
+    }
+
+-- the pairs of two of the first n states are allowed by the numbers that stand for them
+pub marked-states : {n : ℕ} {numbers : List ℕ} → n ≤ mostStates → Marked (bothBelow n) numbers mostPairs
+    → (p q : ℕ) → p < n → q < n → Allowed numbers (pairOf p q)
+unfolding bothBelow
+marked-states {n} few m p q h k =
+    let low : q < mostStates = omega arith in
+    let e = m .tested (pairOf p q) (omega arith) in
+    omega (arith, simp (pair-first p q low, pair-second p q low, lt-ltb p n h, lt-ltb q n k) at e)
+
 -- the numbers that stand for the set of the useful pairs allow exactly these
-pub marked-useful : {t : Transducer} {r : UsefulPairs} {numbers : List ℕ} → Valid t → UsefulPairsOf t r → Marked (r .set .member) numbers mostPairs
+pub marked-useful : {t : Transducer} {r : UsefulPairs} {numbers : List ℕ} → Valid t → UsefulPairsOf t r → Marked (isMember (r .set)) numbers mostPairs
     → (v : ℕ) → Allowed numbers v ↔ Useful t v
 marked-useful {t} {r} {numbers} valid a m v = go (decLt v mostPairs)
   where
@@ -178,10 +201,10 @@ marked-useful {t} {r} {numbers} valid a m v = go (decLt v mostPairs)
     by-flag : v < mostPairs → (b : Bool) → getD (r .set .member) v false ≡ b → Allowed numbers v ↔ Useful t v
     by-flag h true e = (
       λ i. a .members (valid-exactly t .1 valid) (firstOf v) (secondOf v) .0 (sym (pair-flag (r .set) v h) ∙ e),
-      λ u. omega (arith, m .in-set v h ∙ ap (λ b. cond b 1 0) e),
+      λ u. omega (arith, m .tested v h ∙ ap (λ b. cond b 1 0) e),
     )
     by-flag h false e = (
-      λ i. absurd (omega (arith, m .in-set v h ∙ ap (λ b. cond b 1 0) e)),
+      λ i. absurd (omega (arith, m .tested v h ∙ ap (λ b. cond b 1 0) e)),
       λ u. not-valid (pair-flag (r .set) v h ∙ a .members (valid-exactly t .1 valid) (firstOf v) (secondOf v) .1 u) e,
     )
 

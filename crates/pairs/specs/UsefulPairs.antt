@@ -20,6 +20,10 @@ use Rattle.pairs.specs.declared.UsefulPairs.{UsefulPairs}
 unfoldable pub hasPair : PairSet → ℕ → ℕ → Bool
 hasPair s p q = ltb p mostStates && ltb q mostStates && getD (s .member) (pairOf p q) false
 
+-- whether the pair with the number v is in the set
+abbrev pub isMember : PairSet → ℕ → Bool
+isMember s v = getD (s .member) v false
+
 -- the set with no pair
 unfoldable pub noPairs : PairSet
 noPairs = record { member = replicate mostPairs false }

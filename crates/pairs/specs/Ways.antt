@@ -1,12 +1,11 @@
 -- The ways into and out of the useful pairs. A way is kept as links: for each pair the number of the next one, plus 1, and the label of the step
 -- between the two; 0 where the way ends.
-use mathlib.Core.Bool.{cond}
+use mathlib.Core.Bool.{Bool, cond, _&&_}
 use mathlib.Core.Path.{_≡_}
-use mathlib.Core.Bool.{Bool, false}
 use mathlib.Core.List.{List}
 use mathlib.Core.Logic.{_↔_, _≢_}
 use Prim.Native.Nat.{ℕ, suc, _+_, _-_, _≤_, _<_}
-use lib.Dec.{eqb}
+use lib.Dec.{eqb, ltb}
 use lib.ListN.{length, getD}
 use Rattle.worklist.specs.Lists.{Worklist, Found}
 use Rattle.worklist.specs.Search.{Grown}
@@ -109,9 +108,13 @@ pub record Linked (order parent via link step : List ℕ) (bound : ℕ) : Type 0
   pub links : (i : ℕ) → i < bound → getD link (getD order i 0) 0 ≡ linkOf order (getD parent i 0)
   pub steps : (i : ℕ) → i < bound → getD step (getD order i 0) 0 ≡ getD via i 0
 
--- ---- from a set of pairs to the list by which a search is confined
+-- ---- the list by which a search is confined
 
--- the numbers of the pairs in the set are not 0, and those of the others are
-pub record Marked (member : List Bool) (numbers : List ℕ) (bound : ℕ) : Type 0 where
+-- both states of the pair v are below n
+unfoldable pub bothBelow : ℕ → ℕ → Bool
+bothBelow n v = ltb (firstOf v) n && ltb (secondOf v) n
+
+-- of the pairs below `bound`, the numbers of those that pass the test are 1, and those of the others 0
+pub record Marked (test : ℕ → Bool) (numbers : List ℕ) (bound : ℕ) : Type 0 where
   pub long : length numbers ≡ mostPairs
-  pub in-set : (v : ℕ) → v < bound → getD numbers v 0 ≡ cond (getD member v false) 1 0
+  pub tested : (v : ℕ) → v < bound → getD numbers v 0 ≡ cond (test v) 1 0

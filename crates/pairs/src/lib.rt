@@ -10,8 +10,8 @@ ghost use Rattle.worklist.specs.Search.{Blank};
 ghost use Rattle.transducer.specs.Valid.{Valid};
 ghost use Rattle.product.specs.Machine.{ImageOf};
 ghost use Rattle.product.specs.Numbers.{mostPairs};
-ghost use Rattle.pairs.specs.UsefulPairs.{hasPair, noPairs, pairsOf, UsefulPairsOf};
-ghost use Rattle.pairs.specs.Ways.{MovesBack, Tree, WaysOut, Discovered, WayIn, linkOf, Traced, Linked, Marked};
+ghost use Rattle.pairs.specs.UsefulPairs.{hasPair, isMember, noPairs, pairsOf, UsefulPairsOf};
+ghost use Rattle.pairs.specs.Ways.{MovesBack, Tree, WaysOut, Discovered, WayIn, linkOf, Traced, Linked, bothBelow, Marked};
 use product::machine;
 use product::machine::PLACES;
 use product::search;
@@ -155,10 +155,21 @@ pub fn ways_in(
 // Writes 1 for each pair in the set, 0 for each other.
 fn mark(set: PairSet, numbers: &mut [u32])
     requires { ⌜ length (now numbers) ≡ mostPairs ⌝ }
-    ensures { λ _. ⌜ Marked (set .member) (now (numbers .exit)) mostPairs ⌝ }
+    ensures { λ _. ⌜ Marked (isMember set) (now (numbers .exit)) mostPairs ⌝ }
 {
     for v in 0..PAIRS {
         numbers[v] = one_if(set.member[v]);
+    }
+}
+
+// Writes 1 for each pair of two of the first n states, 0 for each other.
+fn mark_states(n: u8, numbers: &mut [u32])
+    requires { ⌜ length (now numbers) ≡ mostPairs ⌝ }
+    ensures { λ _. ⌜ Marked (bothBelow n) (now (numbers .exit)) mostPairs ⌝ }
+{
+    let states = n as usize;
+    for v in 0..PAIRS {
+        numbers[v] = one_if((v / limits::STATES < states) & (v % limits::STATES < states));
     }
 }
 
@@ -202,8 +213,8 @@ fn link_to(order: &[u32], from: u32) -> u16
     v as u16 + 1
 }
 
-// Finds the useful pairs, by two searches: the first finds all pairs that are reached from two start states; the second is from the pairs of final
-// states over the reversed transducer, confined to what the first has found. What it leaves is the second's.
+// Finds the useful pairs, by two searches: the first finds all pairs that are reached from two start states, which are pairs of states of t; the
+// second is from the pairs of final states over the reversed transducer, confined to what the first has found. What it leaves is the second's.
 fn search_back(
     t: Transducer,
     m: &[u16],
@@ -217,7 +228,8 @@ fn search_back(
     requires { ⌜ Blank mostPairs (lists (now order) (now rank) (now parent) (now via) 0) ⌝ }
     ensures { λ n. ⌜ Tree t (t .finals) (MovesBack t) (lists (now (order .exit)) (now (rank .exit)) (now (parent .exit)) (now (via .exit)) n) ⌝ }
 {
-    let all = [1u32; PAIRS];
+    let mut all = [0u32; PAIRS];
+    mark_states(t.states, &mut all);
     let mut reached = [0u32; PAIRS];
     let starts = t.starts;
     search::search(m, m, starts, starts, &all, order, &mut reached, parent, via);

@@ -77,9 +77,9 @@ module _ (t : Transducer) (u : ℕ) where
       go false false e d h = by-both (k / sides) (k % sides) (omega arith) (h .0) (h .1) (h .2 .0) (h .2 .1)
 
 module _ {t : Transducer} (valid : Valid t) where
-  -- a transition in use leads to a state below 32
-  pub edge-low : {l p p′ : ℕ} → Edge t l p p′ → p′ < mostStates
-  edge-low {l} e = omega (arith, e .target, valid .used l (e .used) .to-state, valid .few-states)
+  -- a transition in use leads to a state of the transducer
+  pub edge-state : {l p p′ : ℕ} → Edge t l p p′ → p′ < t .states
+  edge-state {l} e = omega (arith, e .target, valid .used l (e .used) .to-state)
 
   -- and has a number below 256
   pub edge-number : {l p p′ : ℕ} → Edge t l p p′ → l < mostTransitions
