@@ -8,6 +8,7 @@ ghost use lib.ListN.{length, getD};
 ghost use Rattle.worklist.specs.Lists.{lists};
 ghost use Rattle.worklist.specs.Search.{Blank};
 ghost use Rattle.transducer.specs.Valid.{Valid};
+ghost use Rattle.transducer.specs.Reversal.{reversedOf};
 ghost use Rattle.product.specs.Machine.{ImageOf};
 ghost use Rattle.product.specs.Numbers.{mostPairs};
 ghost use Rattle.pairs.specs.UsefulPairs.{hasPair, isMember, noPairs, pairsOf, UsefulPairsOf};
@@ -101,10 +102,12 @@ pub fn ways_out(
     ensures { λ r. ⌜ WaysOut t r (now (out .exit)) (now («out_step» .exit)) ⌝ }
     ensures { λ r. ⌜ Discovered t (now (out .exit)) (now (order .exit)) (r .count) ⌝ }
 {
+    let mut back = [0u16; PLACES];
+    machine::by_input_reversed(t, &mut back);
     let mut rank = [0u32; PAIRS];
     let mut parent = [0u32; PAIRS];
     let mut via = [0u32; PAIRS];
-    let count = search_back(t, m, order, &mut rank, &mut parent, &mut via);
+    let count = search_back(t, m, &back, order, &mut rank, &mut parent, &mut via);
     links(order, &parent, &via, count, out, out_step);
     let set = found(&rank);
     UsefulPairs {
@@ -214,10 +217,12 @@ fn link_to(order: &[u32], from: u32) -> u16
 }
 
 // Finds the useful pairs, by two searches: the first finds all pairs that are reached from two start states, which are pairs of states of t; the
-// second is from the pairs of final states over the reversed transducer, confined to what the first has found. What it leaves is the second's.
+// second is from the pairs of final states over `back`, the machine of t reversed, confined to what the first has found. What it leaves is the
+// second's.
 fn search_back(
     t: Transducer,
     m: &[u16],
+    back: &[u16],
     order: &mut [u32],
     rank: &mut [u32],
     parent: &mut [u32],
@@ -225,6 +230,7 @@ fn search_back(
 ) -> u32
     requires { ⌜ Valid t ⌝ }
     requires { ⌜ ImageOf t false (now m) ⌝ }
+    requires { ⌜ ImageOf (reversedOf t) false (now back) ⌝ }
     requires { ⌜ Blank mostPairs (lists (now order) (now rank) (now parent) (now via) 0) ⌝ }
     ensures { λ n. ⌜ Tree t (t .finals) (MovesBack t) (lists (now (order .exit)) (now (rank .exit)) (now (parent .exit)) (now (via .exit)) n) ⌝ }
 {
@@ -233,20 +239,8 @@ fn search_back(
     let mut reached = [0u32; PAIRS];
     let starts = t.starts;
     search::search(m, m, starts, starts, &all, order, &mut reached, parent, via);
-    let mut back = [0u16; PLACES];
-    machine::by_input_reversed(t, &mut back);
-    let finals = t.finals;
-    search::search(
-        &back,
-        &back,
-        finals,
-        finals,
-        &reached,
-        order,
-        rank,
-        parent,
-        via,
-    )
+    let ends = t.finals;
+    search::search(back, back, ends, ends, &reached, order, rank, parent, via)
 }
 
 // The pairs that a search has found: those whose rank is not 0.
