@@ -1,5 +1,5 @@
 -- Laws of comparing a path's output word with a list, where it stands. Assumes nothing.
-use mathlib.Core.Path.{_≡_, refl, sym, ap, _∙_}
+use mathlib.Core.Path.{_≡_, sym, ap, _∙_}
 use mathlib.Core.Bool.{true}
 use mathlib.Core.List.{List, [], _∷_, _++_, append-cancel-left}
 use mathlib.Core.Logic.{_≢_, _↔_, Iff·rfl, Iff·trans, ⊎-elim}
