@@ -68,6 +68,10 @@ module _ {link label : List ℕ} where
   pub onward : (written : List ℕ) {v : ℕ} → Led link label v → (getD link v 0 ≡ 0 → ⊥) → Onward link label written v (getD link v 0 - 1)
   onward written l h = onward-by written (l .leads) (l .short) refl h
 
+  -- the same, the link being given as a number
+  pub onward-to : (written : List ℕ) {v next : ℕ} → Led link label v → next ≡ getD link v 0 → 0 < next → Onward link label written v (next - 1)
+  onward-to written l e h = rw e (onward written l (λ z. omega arith))
+
   -- where no link leads on, nothing more is written
   no-hops : {v n : ℕ} → Leads link label v n → getD link v 0 ≡ 0 → n ≡ 0
   no-hops (ends e) h = refl
@@ -123,7 +127,7 @@ module _ {written link label : List ℕ} {v : ℕ} where
 
   module _ {node next left right : ℕ} (c : Counting written link label v node next left right) where
     pub counting-onward : 0 < next → Onward link label written node (next - 1)
-    counting-onward h = rw (c .is) (onward written (c .here) (λ z. omega (arith, c .is)))
+    counting-onward h = onward-to written (c .here) (c .is) h
 
     pub counting-more : 0 < next → {left′ right′ : ℕ}
         → left′ ≡ left + countAt written (getD label node 0 / sides) → right′ ≡ right + countAt written (getD label node 0 % sides)
