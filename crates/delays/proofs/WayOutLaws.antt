@@ -1,20 +1,20 @@
 -- Laws of the ways out, link by link. Assumes nothing.
 use mathlib.Core.Path.{_≡_, refl, sym, ap, _∙_}
-use mathlib.Core.Bool.{Bool, true, false, true≢false, _&&_, cond}
+use mathlib.Core.Bool.{Bool, true, false}
 use mathlib.Core.List.{List, [], _++_}
-use mathlib.Core.Logic.{_≢_}
+use mathlib.Core.Logic.{⊎-elim, _≢_}
 use Prim.Native.Nat.{ℕ, zero, suc, _+_, _*_, _-_, _/_, _%_, _≤_, _<_}
+use native.Mathlib.Nat.{eq-or-lt-of-le}
 use native.Mathlib.Omega.{arith}
-use borrow.Author.Tests.{eq-eqb, ne-eqb, eqb-true, eqb-false, ltb-false}
-use lib.Dec.{eqb, ltb}
-use borrow.Author.Count.{below-more}
+use borrow.Author.Tests.{eq-eqb, ne-eqb, eqb-true, eqb-false}
+use lib.Dec.{eqb}
 use lib.ListN.{length, getD, set, length-append}
 use lib.Seq.{getD-set-same, getD-set-other}
 use Rattle.transducer.specs.Limits.{mostOutputs}
 use Rattle.product.specs.Numbers.{mostPairs, noTransition, sides, Label}
 use Rattle.witness.specs.Sides.{takenOf}
 use Rattle.delays.specs.Outputs.{countAt, codesAt}
-use Rattle.delays.specs.WaysOut.{mostWay, level, Leads, ends, goes, hops, hopsOf, Led, writtenOn, wordOut, Lists, GapIs, Known, Gaps}
+use Rattle.delays.specs.WaysOut.{mostWay, level, Leads, ends, goes, hops, hopsOf, Led, writtenOn, wordOut, Lists, GapIs, Placed, Order, Gaps, Grounds}
 use Rattle.delays.proofs.OutputLaws.{length-codes}
 
 -- where a link leads on from v: the next pair
@@ -112,120 +112,92 @@ module _ {written link label : List ℕ} (lists : Lists written link label) wher
   pub word-short : (right : Bool) {v : ℕ} → Led link label v → length (wordOut written link label right v) ≤ mostWay
   word-short right l = omega (arith, word-few right l, l .short)
 
--- ---- the loop of `gap_of`
+-- ---- gaps
 
--- at the pair `node` on the way out of v: what is counted, with what the rest of the way writes, is what the two sides write
-pub record Counting (written link label : List ℕ) (v node next left right : ℕ) : Type 0 where
-  pub here : Led link label node
-  pub is : next ≡ getD link node 0
-  pub lefts : left + length (wordOut written link label false node) ≡ length (wordOut written link label false v)
-  pub rights : right + length (wordOut written link label true node) ≡ length (wordOut written link label true v)
+module _ {written link label : List ℕ} where
+  -- where the way ends both sides write equally much
+  pub gap-ends : {v : ℕ} → Led link label v → getD link v 0 ≡ 0 → GapIs written link label v level
+  gap-ends l z = record { balance = omega (arith, ap length (word-ends written l z false), ap length (word-ends written l z true)) }
 
-module _ {written link label : List ℕ} {v : ℕ} where
-  pub counting-none : Led link label v → Counting written link label v v (getD link v 0) 0 0
-  counting-none l = record { here = l; is = refl; lefts = omega arith; rights = omega arith }
+  -- a gap is between 8 and 16,376
+  pub gap-low : Lists written link label → {v g : ℕ} → Led link label v → GapIs written link label v g
+      → (level ≤ g + mostWay) × (g ≤ level + mostWay)
+  gap-low lists l g = (omega (arith, g .balance, word-short lists false l), omega (arith, g .balance, word-short lists true l))
 
-  module _ {node next left right : ℕ} (c : Counting written link label v node next left right) where
-    pub counting-onward : 0 < next → Onward link label written node (next - 1)
-    counting-onward h = onward-to written (c .here) (c .is) h
-
-    pub counting-more : 0 < next → {left′ right′ : ℕ}
-        → left′ ≡ left + countAt written (getD label node 0 / sides) → right′ ≡ right + countAt written (getD label node 0 % sides)
-        → Counting written link label v (next - 1) (getD link (next - 1) 0) left′ right′
-    counting-more h e e′ =
-        let o = counting-onward h in
-        let l = getD label node 0 / sides in
-        let m = getD label node 0 % sides in
-        let n = length-append (codesAt written l) (wordOut written link label false (next - 1)) in
-        let n′ = length-append (codesAt written m) (wordOut written link label true (next - 1)) in
-        record {
-          here = o .led-next;
-          is = refl;
-          lefts = omega (arith, c .lefts, ap length (o .word false), n, length-codes written l);
-          rights = omega (arith, c .rights, ap length (o .word true), n′, length-codes written m);
-        }
-
-    -- at the end, or where the gap is known, the gap of the pair
-    pub counting-base : {gap : List ℕ} → Known written link label gap → (ltb 0 next && eqb (getD gap node 0) 0) ≡ false
-        → GapIs written link label node (cond (eqb (getD gap node 0) 0) level (getD gap node 0))
-    counting-base {gap} known h = go (eqb (getD gap node 0) 0) refl (and-false (ltb 0 next) h)
-      where
-        and-false : (a : Bool) {b : Bool} → (a && b) ≡ false → b ≡ true → a ≡ false
-        and-false true e q = absurd (true≢false (sym q ∙ e))
-        and-false false e q = refl
-
-        go : (b : Bool) → eqb (getD gap node 0) 0 ≡ b → (eqb (getD gap node 0) 0 ≡ true → ltb 0 next ≡ false)
-            → GapIs written link label node (cond b level (getD gap node 0))
-        go true e n =
-            let z : getD link node 0 ≡ 0 = omega (arith, ltb-false 0 next (n e), c .is) in
-            record {
-              balance =
-                  omega (arith, ap length (word-ends written (c .here) z false), ap length (word-ends written (c .here) z true));
-            }
-        go false e n = known .right node (eqb-false (getD gap node 0) 0 e)
-
-    module _ (lists : Lists written link label) (first : Led link label v) where
-      -- the counts stay small
-      pub counting-small : (left ≤ mostWay) × (right ≤ mostWay)
-      counting-small = (omega (arith, c .lefts, word-short lists false first), omega (arith, c .rights, word-short lists true first))
-
-      module _ {base : ℕ} (g : GapIs written link label node base) where
-        pub counting-order : (left ≤ base + right) × (base ≤ level + mostWay)
-        counting-order =
-            (omega (arith, g .balance, c .lefts, word-short lists false first), omega (arith, g .balance, word-short lists true (c .here)))
-
-        pub counting-done : GapIs written link label v (base + right - left)
-        counting-done = record { balance = omega (arith, g .balance, c .lefts, c .rights, counting-order) }
+  -- one step before a pair whose gap is known
+  pub gap-onward : Lists written link label → {v next g : ℕ} → Onward link label written v next → GapIs written link label next g
+      → {left right : ℕ} → left ≡ countAt written (takenOf false (getD label v 0)) → right ≡ countAt written (takenOf true (getD label v 0))
+      → GapIs written link label v (g + right - left)
+  gap-onward lists {v} {next} o is left-is right-is =
+      let l = takenOf false (getD label v 0) in
+      let m = takenOf true (getD label v 0) in
+      record {
+        balance =
+            omega (
+              arith,
+              is .balance,
+              gap-low lists (o .led-next) is .0,
+              lists .outputs .few l (taken-low false (getD label v 0) (o .low-label)),
+              ap length (o .word false),
+              length-append (codesAt written l) (wordOut written link label false next),
+              length-codes written l,
+              ap length (o .word true),
+              length-append (codesAt written m) (wordOut written link label true next),
+              length-codes written m,
+            );
+      }
 
 -- ---- the loop of `fill`
 
-module _ {written link label : List ℕ} where
-  -- a list of zeros has no wrong gap
-  pub known-none : {gap : List ℕ} → ((v : ℕ) → getD gap v 0 ≡ 0) → Known written link label gap
-  known-none z = record { right = λ v n. absurd (n (z v)) }
+-- a place among the first h is one among more
+pub placed-more : {order : List ℕ} {h n v : ℕ} → h ≤ n → Placed order h v → Placed order n v
+placed-more low p = record { place = p .place; low = omega (arith, p .low); is = p .is }
 
-  -- one gap more
-  pub known-more : {gap : List ℕ} {v x : ℕ} → v < length gap → Known written link label gap → (x ≢ 0 → GapIs written link label v x)
-      → Known written link label (set gap v x)
-  known-more {gap} {v} {x} room known is = record { right = λ u. go u (eqb u v) refl }
+-- a place among the first h + 1 is among the first h, or is h
+placed-split : {order : List ℕ} {h v : ℕ} → Placed order (h + 1) v → (getD order h 0 ≢ v) → Placed order h v
+placed-split {order} {h} p n =
+    record {
+      place = p .place;
+      low = ⊎-elim (λ (e : p .place ≡ h). absurd (n (ap (λ k. getD order k 0) (sym e) ∙ p .is))) (λ (l : p .place < h). l) (eq-or-lt-of-le (let z : p .place ≤ h = omega (arith, p .low) in z));
+      is = p .is;
+    }
+
+module _ {written link label order : List ℕ} where
+  pub gaps-none : {gap : List ℕ} → ((v : ℕ) → getD gap v 0 ≡ 0) → Gaps written link label order 0 gap
+  gaps-none z = record { placed = λ v p. absurd (omega (arith, p .low)); only = λ v n. absurd (n (z v)) }
+
+  pub gaps-more : {gap : List ℕ} {h v g : ℕ} → Gaps written link label order h gap → getD order h 0 ≡ v → v < length gap
+      → GapIs written link label v g → Gaps written link label order (h + 1) (set gap v g)
+  gaps-more {gap} {h} {v} {g} gs here room is =
+      record { placed = λ u. placed u (eqb u v) refl; only = λ u. only u (eqb u v) refl }
     where
-      go : (u : ℕ) (b : Bool) → eqb u v ≡ b → getD (set gap v x) u 0 ≢ 0 → GapIs written link label u (getD (set gap v x) u 0)
-      go u true e n =
+      placed : (u : ℕ) (b : Bool) → eqb u v ≡ b → Placed order (h + 1) u → GapIs written link label u (getD (set gap v g) u 0)
+      placed u true e p =
           let q : u ≡ v = eqb-true u v e in
-          let s : getD (set gap v x) u 0 ≡ x = ap (λ w. getD (set gap v x) w 0) q ∙ getD-set-same gap v x 0 room in
-          rw (s, q) (is (λ z. n (s ∙ z)))
-      go u false e n =
-          let s = getD-set-other gap v u x 0 (eqb-false u v e) in
-          rw s (known .right u (λ z. n (s ∙ z)))
+          rw (q, getD-set-same gap v g 0 room) is
+      placed u false e p =
+          let n = eqb-false u v e in
+          rw (getD-set-other gap v u g 0 n) (gs .placed u (placed-split p (λ z. n (sym z ∙ here))))
 
-module _ {written link label : List ℕ} {member : List Bool} where
-  pub gaps-none : {gap : List ℕ} → Gaps written link label member gap 0
-  gaps-none = record { inside = λ v h. absurd (omega arith); outside = λ v h. absurd (omega arith) }
+      only : (u : ℕ) (b : Bool) → eqb u v ≡ b → getD (set gap v g) u 0 ≢ 0 → Placed order (h + 1) u
+      only u true e n = record { place = h; low = omega arith; is = here ∙ sym (eqb-true u v e) }
+      only u false e n =
+          placed-more (omega arith) (gs .only u (λ z. n (getD-set-other gap v u g 0 (eqb-false u v e) ∙ z)))
 
-  pub gaps-all : {gap : List ℕ} {v : ℕ} → Gaps written link label member gap v → mostPairs ≤ v → Gaps written link label member gap mostPairs
-  gaps-all g h = record { inside = λ u k. g .inside u (omega arith); outside = λ u k. g .outside u (omega arith) }
+-- with the gaps of all pairs that have a place, the equations have what they rely on
+pub grounds : {written link label order gap : List ℕ} {n : ℕ} → Lists written link label → Order link label order n → length gap ≡ mostPairs
+    → Gaps written link label order n gap → Grounds written link label gap
+grounds {link = link} {label = label} lists o long g =
+    record {
+      lists = lists;
+      long-gap = long;
+      ways = λ v _ n. let p = g .only v n in rw (p .is) at (o .ways (p .place) (p .low));
+      gaps = λ v _ n. g .placed v (g .only v n);
+    }
 
-  module _ {gap : List ℕ} {v : ℕ} (g : Gaps written link label member gap v) (room : v < length gap) where
-    -- a pair of the set
-    pub gaps-inside : {x : ℕ} → getD member v false ≡ true → GapIs written link label v x → Gaps written link label member (set gap v x) (v + 1)
-    gaps-inside {x} m is =
-        record {
-          inside =
-              below-more _ v (λ u h k. rw (getD-set-other gap v u x 0 (λ z. omega arith)) (g .inside u h k))
-              (λ _. rw (getD-set-same gap v x 0 room) is);
-          outside =
-              below-more _ v (λ u h k. getD-set-other gap v u x 0 (λ z. omega arith) ∙ g .outside u h k)
-              (λ n. absurd (true≢false (sym m ∙ n)));
-        }
-
-    -- another pair
-    pub gaps-outside : getD member v false ≡ false → Gaps written link label member (set gap v 0) (v + 1)
-    gaps-outside m =
-        record {
-          inside =
-              below-more _ v (λ u h k. rw (getD-set-other gap v u 0 0 (λ z. omega arith)) (g .inside u h k))
-              (λ n. absurd (true≢false (sym n ∙ m)));
-          outside =
-              below-more _ v (λ u h k. getD-set-other gap v u 0 0 (λ z. omega arith) ∙ g .outside u h k)
-              (λ _. getD-set-same gap v 0 0 room);
-        }
+-- the gap of a pair that has a place is not 0
+pub gap-there : {written link label order gap : List ℕ} {n : ℕ} → Lists written link label → Order link label order n
+    → Gaps written link label order n gap → {v : ℕ} → Placed order n v → getD gap v 0 ≢ 0
+gap-there {link = link} {label = label} lists o g {v} p z =
+    let l : Led link label v = rw (p .is) at (o .ways (p .place) (p .low)) in
+    omega (arith, gap-low lists l (g .placed v p) .0)

@@ -3,7 +3,7 @@ use mathlib.Core.Path.{_≡_}
 use mathlib.Core.Bool.{Bool, true, false, cond}
 use mathlib.Core.List.{List, [], _++_}
 use mathlib.Core.Logic.{_≢_}
-use Prim.Native.Nat.{ℕ, zero, suc, _+_, _*_, _-_, _<_}
+use Prim.Native.Nat.{ℕ, zero, suc, _+_, _*_, _-_, _≤_, _<_}
 use lib.Dec.{eqb}
 use lib.ListN.{length, getD}
 use Rattle.transducer.specs.Limits.{mostOutputs}
@@ -15,9 +15,9 @@ use Rattle.delays.specs.Outputs.{codesAt, Outputs}
 abbrev pub mostWay : ℕ
 mostWay = mostOutputs * (mostPairs - 1)
 
--- the gap of a pair whose two sides write equally much
+-- the gap of a pair whose two sides write equally much: 8,192, more than one side can write
 abbrev pub level : ℕ
-level = 8192
+level = mostOutputs * mostPairs
 
 module _ (link label : List ℕ) where
   -- from v, n links lead to a pair that has none (a link is 1 + the next pair, or 0), each with the label of a step
@@ -60,14 +60,23 @@ pub record Lists (written link label : List ℕ) : Type 0 where
 pub record GapIs (written link label : List ℕ) (v g : ℕ) : Type 0 where
   pub balance : g + length (wordOut written link label false v) ≡ level + length (wordOut written link label true v)
 
--- what is not 0 in the list is the gap of its pair
-pub record Known (written link label gap : List ℕ) : Type 0 where
-  pub right : (v : ℕ) → getD gap v 0 ≢ 0 → GapIs written link label v (getD gap v 0)
+-- v has a place among the first n of the order
+pub record Placed (order : List ℕ) (n v : ℕ) : Type 0 where
+  pub place : ℕ
+  pub low : place < n
+  pub is : getD order place 0 ≡ v
 
--- the gaps of the pairs below `bound` that are in the set, and 0 for the others
-pub record Gaps (written link label : List ℕ) (member : List Bool) (gap : List ℕ) (bound : ℕ) : Type 0 where
-  pub inside : (v : ℕ) → v < bound → getD member v false ≡ true → GapIs written link label v (getD gap v 0)
-  pub outside : (v : ℕ) → v < bound → getD member v false ≡ false → getD gap v 0 ≡ 0
+-- the first n places of the order have pairs with ways out, each behind the pair that its link leads to
+pub record Order (link label order : List ℕ) (n : ℕ) : Type 0 where
+  pub long : length order ≡ mostPairs
+  pub few : n ≤ mostPairs
+  pub ways : (h : ℕ) → h < n → Led link label (getD order h 0)
+  pub earlier : (h : ℕ) → h < n → getD link (getD order h 0) 0 ≢ 0 → Placed order h (getD link (getD order h 0) 0 - 1)
+
+-- the gaps of the pairs that have a place among the first n of the order, and 0 for every other pair
+pub record Gaps (written link label order : List ℕ) (n : ℕ) (gap : List ℕ) : Type 0 where
+  pub placed : (v : ℕ) → Placed order n v → GapIs written link label v (getD gap v 0)
+  pub only : (v : ℕ) → getD gap v 0 ≢ 0 → Placed order n v
 
 -- what the equations rely on: the lists, and for each pair whose gap is not 0 a way out, and the gap of it
 pub record Grounds (written link label gap : List ℕ) : Type 0 where
