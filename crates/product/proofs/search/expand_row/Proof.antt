@@ -29,8 +29,11 @@ abbrev μ-loop : tie.MeasureT-loop
 
 -- ---- places: the start, a turn of the loop, the call of `offer` in it
 
+abbrev entry : tie.After-slice-known5 Inv-loop μ-loop → tie.Start Inv-loop μ-loop
+entry c = c .before .before .before .before .before .before .before .before
+
 abbrev start : tie.At-loop Inv-loop μ-loop → tie.Start Inv-loop μ-loop
-start c = c .before .before .before .before .before .before .before .before .before .before
+start c = entry (c .before .before)
 
 abbrev turn : tie.After-offer-arg4 Inv-loop μ-loop → tie.In-loop Inv-loop μ-loop
 turn c = c .before .before .before .before .before .before
@@ -60,11 +63,11 @@ mul-pair : tie.Need-mul-pair Inv-loop μ-loop
 mul-pair c = omega arith
 
 slice-read-pair : tie.Need-slice-read-pair Inv-loop μ-loop
-slice-read-pair c = let r = c .before .before .before .before .before .before .before .before .pre .0 in inside (r .grown) (r .place)
+slice-read-pair c = let r = entry c .pre .0 in inside (r .grown) (r .place)
 
 first-step-requires : tie.Need-first-step-requires Inv-loop μ-loop
 first-step-requires c κs =
-    let p = c .before .before .before .before .before .before .before .before .pre in
+    let p = entry c .pre in
     let r = p .0 in
     (r .lent .left-machine, (r .lent .right-machine, (r .grown .below _ (r .place), p .1)))
 
