@@ -1,7 +1,6 @@
 -- Laws of the steps of a pair: how the loops along the transitions of a state go on; which steps a row has; and how a caller's two loops, over the rows
 -- and over the steps of a row, pass all labels in order. A row is the steps that take one transition on the left side, or those in which the left
 -- side rests. Assumes nothing.
-use mathlib.Core.Bool.{cond}
 use mathlib.Core.Path.{_≡_, refl, sym, ap, _∙_}
 use mathlib.Core.List.{List}
 use mathlib.Core.Logic.{_≢_}
@@ -238,15 +237,9 @@ module _ (left right : List ℕ) where
     pub none : (k : ℕ) → low ≤ k → k < high → Steps left right u k → ⊥
 
 module _ {left right : List ℕ} where
+  -- between equal labels there is none
   pub past-none : {u low high : ℕ} → low ≡ high → Past left right u low high
   past-none e = record { above = omega arith; none = λ k a b s. omega arith }
-
-  pub past-join : {u low middle high : ℕ} → Past left right u low middle → Past left right u middle high → Past left right u low high
-  past-join {u} {low} {middle} {high} p p′ = record { above = omega (arith, p .above, p′ .above); none = λ k a b s. go k a b s (decLt k middle) }
-    where
-      go : (k : ℕ) → low ≤ k → k < high → Steps left right u k → Dec (k < middle) → ⊥
-      go k a b s (yes c) = p .none k a c s
-      go k a b s (no c) = p′ .none k (omega arith) b s
 
   -- the loop over the steps of a row begins, and goes on: no step of the row comes before the first from `low` on
   pub past-steps : {u r start : ℕ} (row low : ℕ) → StepFrom left right u row low r → start ≡ labelOf row low → Past left right u start (labelOf row r)

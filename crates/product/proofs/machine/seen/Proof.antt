@@ -1,5 +1,4 @@
 -- `seen` meets its contract. Assumes nothing.
-use mathlib.Core.Path.{refl}
 use borrow.Author.Needs.{needs}
 use Rattle.product.proofs.machine.seen.Statement.{statement}
 use Rattle.product.proofs.machine.seen.Tie as tie

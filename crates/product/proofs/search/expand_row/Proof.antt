@@ -29,8 +29,11 @@ abbrev μ-loop : tie.MeasureT-loop
 
 -- ---- places: the start, a turn of the loop, the call of `offer` in it
 
+abbrev lent : tie.After-slice-known4 Inv-loop μ-loop → tie.Start Inv-loop μ-loop
+lent c = c .before .before .before .before .before .before .before
+
 abbrev entry : tie.After-slice-known5 Inv-loop μ-loop → tie.Start Inv-loop μ-loop
-entry c = c .before .before .before .before .before .before .before .before
+entry c = lent (c .before)
 
 abbrev start : tie.At-loop Inv-loop μ-loop → tie.Start Inv-loop μ-loop
 start c = entry (c .before .before)
@@ -41,8 +44,11 @@ turn c = c .before .before .before .before .before .before
 abbrev labelled : tie.After-offer-arg4 Inv-loop μ-loop → tie.After-label Inv-loop μ-loop
 labelled c = c .before .before .before .before
 
+abbrev last : tie.After-slice-known9 Inv-loop μ-loop → tie.After-order Inv-loop μ-loop
+last c = c .before .before .before .before .before .before .before
+
 abbrev offered : tie.After-slice-known9 Inv-loop μ-loop → tie.After-offer Inv-loop μ-loop
-offered c = c .before .before .before .before .before .before .before .before
+offered c = last c .before
 
 -- a turn of the loop takes a step of the row
 taken : (c : tie.In-loop Inv-loop μ-loop)
