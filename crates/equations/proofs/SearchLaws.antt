@@ -1,7 +1,7 @@
 -- What the tests at the useful pairs say of the transducer: if all pass it is functional, and where one fails the two sides of a walk write
 -- different words. Assumes nothing.
 use mathlib.Core.Path.{_≡_, refl, sym, ap, _∙_}
-use mathlib.Core.List.{List}
+use mathlib.Core.List.{List, [], _∷_, _++_, append-assoc}
 use mathlib.Core.Bool.{Bool, true, false}
 use mathlib.Core.Logic.{_≢_}
 use Prim.Native.Nat.{ℕ, zero, suc, _*_, _≤_, _<_}
@@ -16,7 +16,6 @@ use Rattle.transducer.specs.Paths.{Functional}
 use Rattle.transducer.specs.Useful.{UsefulPair}
 use Rattle.transducer.specs.Walks.{Step, both, left, right, Move}
 use Rattle.transducer.specs.declared.Transducer.{Transducer}
-use Rattle.transducer.proofs.Facts.{valid-exactly}
 use Rattle.product.specs.Numbers.{mostPairs, pairOf, firstOf, secondOf, noTransition, sides, labelOf, stepOf, Moves}
 use Rattle.product.specs.Machine.{ImageOf}
 use Rattle.product.proofs.ImageLaws.{steps-move, move-steps}
@@ -26,18 +25,19 @@ use Rattle.product.proofs.LabelLaws.{both-label, left-label, right-label}
 use Rattle.pairs.specs.UsefulPairs.{hasPair}
 use Rattle.pairs.specs.Ways.{Useful}
 use Rattle.pairs.specs.declared.UsefulPairs.{UsefulPairs}
-use Rattle.witness.specs.Walk.{walkOf}
+use Rattle.witness.specs.Walk.{walkOf, Same}
 use Rattle.witness.proofs.Fronts.{same-bytes}
 use Rattle.delays.specs.Outputs.{OutputsOf}
 use Rattle.delays.specs.WaysOut.{level, Lists, Led, wordOut, Gaps, Grounds}
 use Rattle.delays.specs.Needs.{StepHolds}
 use Rattle.delays.proofs.WayOutLaws.{word-short}
-use Rattle.equations.specs.Links.{wayIn, wayOut}
-use Rattle.equations.specs.Tests.{Links, Standing, Ready, StartPasses, RoundPasses, StepPasses, Differing, Measured, PairPasses, Broken}
+use Rattle.equations.specs.Links.{wayOut}
+use Rattle.equations.specs.Tests.{Standing, WayPasses, Differing, Tested, Measured, PairPasses, Broken, AllTried}
 use Rattle.equations.specs.declared.Failure.{Failure}
 use Rattle.equations.proofs.Equations as equations
 use Rattle.equations.proofs.OutWords.{way-led, word-is, right-needs, left-needs, equation-exactly}
-use Rattle.equations.proofs.WayLaws.{walk-append, way-follows, useful-low, few-useful, numbered, numbered-useful, outWalk, out-done}
+use Rattle.equations.proofs.TestLaws.{valid as is-valid, few as few-pairs, low as pairs-low}
+use Rattle.equations.proofs.WayLaws.{way-follows, numbered, numbered-useful, outWalk, out-done}
 
 -- the label of a step
 record LabelOf (e : Step) : Type 0 where
@@ -76,14 +76,14 @@ pub measured : {t : Transducer} {m written out out-step gap : List ℕ} → Mean
 measured s = record { machine = s .image .machine; grounds = s .grounds }
 
 module _ {t : Transducer} {r : UsefulPairs} {out out-step : List ℕ} (ready : Standing t r out out-step) where
-  pub valid : Valid t
-  valid = valid-exactly t .0 (ready .valid)
+  abbrev valid : Valid t
+  valid = is-valid ready
 
-  few : r .count ≤ mostPairs
-  few = few-useful (ready .valid) (ready .ways)
+  abbrev few : r .count ≤ mostPairs
+  few = few-pairs ready
 
-  low : (v : ℕ) → Useful t v → v < mostPairs
-  low = useful-low (ready .valid) (ready .ways)
+  abbrev low : (v : ℕ) → Useful t v → v < mostPairs
+  low = pairs-low ready
 
   pub led-out : (v : ℕ) → Useful t v → Led out out-step v
   led-out = way-led valid few low (ready .ways .way-out)
@@ -167,51 +167,48 @@ module _ {t : Transducer} {r : UsefulPairs} {out out-step : List ℕ} (ready : S
         (equation-exactly valid few low (ready .ways .way-out) (s .outputs) (pairOf p q) (l .label) (pairOf p′ q′) u u′
         (label-low valid (pairOf p q) (l .label) (pairOf p′ q′) moves) .0 holds)
 
-    pub all-pass : Functional t
+    all-pass : Functional t
     all-pass = equations.functional t (outWalk (ready .valid) (ready .ways)) (out-done (ready .valid) (ready .ways)) starts-pass steps-pass
 
--- ---- where a test fails
+  -- ---- where a test fails
 
-module _ {t : Transducer} {r : UsefulPairs} {k : Links} {steps : List ℕ} (ready : Ready t r k steps)
-    {m written gap : List ℕ} (s : Meant t m written (k .out) (k .out-step) gap) where
-  -- at a pair of start states
-  uneven-differs : (v : ℕ) → Useful t v → getD gap v 0 ≢ level → StartPasses t k v → ⊥
-  uneven-differs v u n p =
-      let y = ready .standing in
-      let same = p _ (way-follows (few y) (low y) (y .ways .way-out) v u) in
-      let w = word-is (valid y) (few y) (low y) (y .ways .way-out) (s .outputs) in
-      let e : length (wordOut written (k .out) (k .out-step) false v) ≡ length (wordOut written (k .out) (k .out-step) true v) =
-      ap length (w false v u ∙ ap bytesOf same ∙ sym (w true v u)) in
-      n (omega (arith, s .grounds .gaps v (low y v u) (s .known v u) .balance))
+  module _ {m written gap : List ℕ} (s : Meant t m written out out-step gap) where
+    -- at a pair of start states
+    uneven-differs : (v : ℕ) → Useful t v → getD gap v 0 ≢ level → WayPasses t out out-step [] v → ⊥
+    uneven-differs v u n p =
+        let same = p _ (way-follows few low (ready .ways .way-out) v u) in
+        let w = word-is valid few low (ready .ways .way-out) (s .outputs) in
+        let e : length (wordOut written out out-step false v) ≡ length (wordOut written out out-step true v) =
+        ap length (w false v u ∙ ap bytesOf same ∙ sym (w true v u)) in
+        n (omega (arith, s .grounds .gaps v (low v u) (s .known v u) .balance))
 
-  -- at a step
-  equation-differs : (i label j : ℕ) → Useful t i → Useful t j → Moves t i label j → (StepHolds written (k .out) (k .out-step) i label j → ⊥)
-      → RoundPasses t k i → StepPasses t k i label j → ⊥
-  equation-differs i label j u u′ move fails round step =
-      let y = ready .standing in
-      let into = way-follows (few y) (low y) (ready .way-in) i u in
-      let out = way-follows (few y) (low y) (y .ways .way-out) i u in
-      let out′ = way-follows (few y) (low y) (y .ways .way-out) j u′ in
-      let a = rw walk-append at (round _ _ into out) in
-      let b = rw walk-append at (step _ _ into out′) in
-      let front = walkOf (wayIn (k .into) (k .into-step) (ready .way-in .depth i) i) in
-      let x = walkOf (wayOut (k .out) (k .out-step) (y .ways .way-out .depth i) i) in
-      let x′ = walkOf (wayOut (k .out) (k .out-step) (y .ways .way-out .depth j) j) in
-      let h = equations.holds t front x x′ (stepOf label) a b in
-      fails
-      (equation-exactly (valid y) (few y) (low y) (y .ways .way-out) (s .outputs) i label j u u′
-      (label-low (valid y) i label j move) .1 h)
+    -- at a step
+    equation-differs : (i label j : ℕ) → Useful t i → Useful t j → Moves t i label j → (StepHolds written out out-step i label j → ⊥)
+        → (u : List Step) → WayPasses t out out-step u i → WayPasses t out out-step (u ++ (stepOf label ∷ [])) j → ⊥
+    equation-differs i label j h h′ move fails u round step =
+        let w = ready .ways .way-out in
+        let x = walkOf (wayOut out out-step (w .depth i) i) in
+        let y = walkOf (wayOut out out-step (w .depth j) j) in
+        let b : Same t (u ++ (stepOf label ∷ y)) = rw (append-assoc u (stepOf label ∷ []) y) at (step _ (way-follows few low w j h′)) in
+        fails
+        (equation-exactly valid few low w (s .outputs) i label j h h′ (label-low valid i label j move) .1
+        (equations.holds t u x y (stepOf label) (round _ (way-follows few low w i h)) b))
 
-  pub differing : (f : Failure) → Broken (t .starts) m written (k .out) (k .out-step) gap (f .from) (f .label) (f .to) → Differing t k f
-  differing f b =
-      let u = s .useful (f .from) (b .inside) (b .marked) in
-      record {
-        useful = u;
-        start = λ e. let z = b .start e in (z .0, uneven-differs (f .from) u (z .1));
-        step = λ n.
-            let z = b .step n in
-            let move = steps-move (s .image) (z .step) (z .target) in
-            let j-low : f .to < mostPairs = rw (z .target) at (target-low (s .image .machine) (s .image .machine) (b .inside) (z .step)) in
-            let u′ = s .useful (f .to) j-low (z .marked) in
-            (u′, move, equation-differs (f .from) (f .label) (f .to) u u′ move (z .fails));
-      }
+    pub differing : (f : Failure) → Broken (t .starts) m written out out-step gap (f .from) (f .label) (f .to) → Differing t out out-step f
+    differing f b =
+        let u = s .useful (f .from) (b .inside) (b .marked) in
+        record {
+          useful = u;
+          start = λ e. let z = b .start e in (z .0, uneven-differs (f .from) u (z .1));
+          step = λ n.
+              let z = b .step n in
+              let move = steps-move (s .image) (z .step) (z .target) in
+              let j-low : f .to < mostPairs = rw (z .target) at (target-low (s .image .machine) (s .image .machine) (b .inside) (z .step)) in
+              let u′ = s .useful (f .to) j-low (z .marked) in
+              (u′, move, equation-differs (f .from) (f .label) (f .to) u u′ move (z .fails));
+        }
+
+    -- ---- the answer of all tests
+
+    pub tested : {f : Failure} → AllTried (t .starts) m written out out-step gap mostPairs f → Tested t out out-step f
+    tested {f} a = record { passed = λ e. all-pass s (a .passed e); failing = λ n. differing f (a .failing n) }

@@ -1,13 +1,12 @@
--- What a test compares: the part of the list that was written is the walk of the test, and it leads from two start states to two final states.
--- Assumes nothing.
-use mathlib.Core.Path.{_≡_, ap, _∙_, subst}
+-- Where a test fails, the walk that is written leads from two start states to two final states in few steps, and its two sides write different
+-- words. Assumes nothing.
+use mathlib.Core.Path.{_≡_, ap}
 use mathlib.Core.List.{List, [], _∷_, _++_, append-assoc}
-use Prim.Native.Nat.{ℕ, _+_, _-_, _*_, _≤_}
+use Prim.Native.Nat.{ℕ, _*_, _-_, _≤_, _<_}
 use native.Mathlib.Omega.{arith}
-use lib.ListN.{length, set, length-append}
-use Rattle.words.specs.Put.{put}
-use Rattle.words.proofs.PutLaws.{put-one, put-length, put-behind, put-there}
+use lib.ListN.{length, length-append}
 use Rattle.transducer.specs.Valid.{Valid}
+use Rattle.transducer.specs.Walks.{Step}
 use Rattle.transducer.specs.declared.Transducer.{Transducer}
 use Rattle.transducer.proofs.Facts.{valid-exactly}
 use Rattle.transducer.proofs.MoveLaws.{move-walk}
@@ -16,242 +15,104 @@ use Rattle.product.specs.Numbers.{mostPairs, firstOf, secondOf, stepOf, PairIn,
 use Rattle.pairs.specs.Ways.{Useful, WayIn}
 use Rattle.pairs.specs.declared.UsefulPairs.{UsefulPairs}
 use Rattle.witness.specs.Walk.{walkOf, Same, Whole}
-use Rattle.equations.specs.Links.{mostSteps, middle, Follows, wayIn, wayOut, EnteredBy, LeftBy, Short}
-use Rattle.equations.specs.Tests.{Links, linksOf, Standing, Ready, StartPasses, RoundPasses, StepPasses, Fails, Answers, part}
-use Rattle.equations.specs.declared.Found.{Found}
-use Rattle.equations.specs.declared.Found.the-variants.{Nothing, At}
+use Rattle.witness.specs.Sides.{Candidate}
+use Rattle.equations.specs.Links.{Follows, wayIn, wayOut, Short, linksOf, part, StandsAt, RoundAt, ThroughAt}
+use Rattle.equations.specs.Tests.{Standing, WayPasses, Fails}
+use Rattle.equations.specs.declared.way.Place.{Place}
 use Rattle.equations.proofs.LinkLaws.{follows-unique, length-wayIn, length-wayOut}
 use Rattle.equations.proofs.WalkWords.{whole}
 use Rattle.equations.proofs.WayLaws.{walk-append, way-follows, way-short, way-reaches, way-leaves, useful-low, few-useful}
 
--- what is found says as much of a weaker claim
-pub answers : (t : Transducer) (u : ℕ) (steps : List ℕ) {P Q : Type 0} (r : Found) → (P → Q) → Answers t u steps P r → Answers t u steps Q r
-answers t u steps Nothing f a = f a
-answers t u steps (At a e) f h = h
-
--- where nothing is found the claim holds
-pub found-nothing : (t : Transducer) (u : ℕ) (steps : List ℕ) {P : Type 0} {r : Found} → r ≡ Nothing → Answers t u steps P r → P
-found-nothing t u steps {P} e a = subst (Answers t u steps P) e a
-
--- and where a walk is found a test fails
-pub found-at : {t : Transducer} {u : ℕ} {steps : List ℕ} (P : Type 0) {r : Found} {a e : ℕ} → r ≡ At a e → Answers t u steps P r → Fails t u steps a e
-found-at {t} {u} {steps} P q h = subst (Answers t u steps P) q h
-
--- all that the search for a walk relies on
-pub ready-now : {t : Transducer} {r : UsefulPairs} {into into-step out out-step steps : List ℕ} → Standing t r out out-step
-    → WayIn t (r .count) into into-step → length into ≡ mostPairs → length into-step ≡ mostPairs → length steps ≡ mostSteps
-    → Ready t r (linksOf into into-step out out-step) steps
-ready-now s w l l′ l″ = record { standing = s; way-in = w; long-into = l; long-into-step = l′; long-steps = l″ }
-
--- what was put is a part of the list
-part-put : (l : List ℕ) (a e : ℕ) (vs : List ℕ) → a ≤ length l → e ≡ a + length vs → part a e (put l a vs) ≡ vs
-part-put l a e vs h q = let n : e - a ≡ length vs = omega arith in rw n (put-there l a vs h)
-
-module _ {t : Transducer} {r : UsefulPairs} {k : Links} {steps : List ℕ} (ready : Ready t r k steps) where
-  -- a test leaves other labels in the list, and all is ready for the next
-  pub ready-still : {after : List ℕ} → length after ≡ length steps → Ready t r k after
-  ready-still e =
-      record {
-        standing = ready .standing;
-        way-in = ready .way-in;
-        long-into = ready .long-into;
-        long-into-step = ready .long-into-step;
-        long-steps = e ∙ ready .long-steps;
-      }
-
-  pub is-valid : Valid t
-  is-valid = valid-exactly t .0 (ready .standing .valid)
-
-  pub short-in : (v : ℕ) → Useful t v → Short (k .into) v
-  short-in = way-short (few-useful (ready .standing .valid) (ready .standing .ways)) (useful-low (ready .standing .valid) (ready .standing .ways)) (ready .way-in)
-
-  pub short-out : (v : ℕ) → Useful t v → Short (k .out) v
-  short-out = way-short (few-useful (ready .standing .valid) (ready .standing .ways)) (useful-low (ready .standing .valid) (ready .standing .ways)) (ready .standing .ways .way-out)
+module _ {t : Transducer} {r : UsefulPairs} {out out-step : List ℕ} (standing : Standing t r out out-step) where
+  pub valid : Valid t
+  valid = valid-exactly t .0 (standing .valid)
 
   pub few : r .count ≤ mostPairs
-  few = few-useful (ready .standing .valid) (ready .standing .ways)
+  few = few-useful (standing .valid) (standing .ways)
 
-  -- the number of links is the number of steps of the way, fewer than u
-  in-depth : (v n : ℕ) → Useful t v → Follows (k .into) v n → n ≡ ready .way-in .depth v
-  in-depth v n h f =
-      follows-unique f (way-follows few (useful-low (ready .standing .valid) (ready .standing .ways)) (ready .way-in) v h)
+  pub low : (v : ℕ) → Useful t v → v < mostPairs
+  low = useful-low (standing .valid) (standing .ways)
 
-  out-depth : (v n : ℕ) → Useful t v → Follows (k .out) v n → n ≡ ready .standing .ways .way-out .depth v
-  out-depth v n h f =
-      follows-unique f (way-follows few (useful-low (ready .standing .valid) (ready .standing .ways)) (ready .standing .ways .way-out) v h)
+  pub short-out : (v : ℕ) → Useful t v → Short out v
+  short-out = way-short few low (standing .ways .way-out)
 
-  -- ---- the test at a pair of start states
+  -- the number of links is the number of steps of the way
+  out-depth : {v n : ℕ} → Useful t v → Follows out v n → n ≡ standing .ways .way-out .depth v
+  out-depth {v} h f = follows-unique f (way-follows few low (standing .ways .way-out) v h)
 
-  module _ {v e : ℕ} {after : List ℕ} (u : Useful t v) (l : LeftBy (k .out) (k .out-step) v steps after middle e) where
-    start-part : part middle e after ≡ wayOut (k .out) (k .out-step) (l .size) v
-    start-part =
-        ap (part middle e) (l .left)
-        ∙ part-put steps middle e (wayOut (k .out) (k .out-step) (l .size) v) (omega (arith, ready .long-steps))
-        (omega (arith, l .place, length-wayOut (k .out) (k .out-step) (l .size) v))
+  -- labels at a place that are those of a walk whose sides write different words
+  fails : {steps : List ℕ} {p : Place} {w : List ℕ} → StandsAt steps p w → Whole t (walkOf w) → length w ≤ 2 * r .count - 1 → (Same t (walkOf w) → ⊥)
+      → Fails t (r .count) steps p
+  fails s h l d = record { order = s .order; inside = s .inside; whole = rw (s .is) h; differ = rw (s .is) d; short = rw (s .is) l }
 
-    pub start-passes : Same t (walkOf (part middle e after)) → StartPasses t k v
-    start-passes s m f = let n : l .size ≡ m = follows-unique (l .follows) f in rw (start-part, n) at s
+  -- at an uneven pair of start states
+  pub way-fails : {steps : List ℕ} {p : Place} {v n : ℕ} → Useful t v → PairIn (t .starts) (t .starts) v → Follows out v n
+      → StandsAt steps p (wayOut out out-step n v) → (WayPasses t out out-step [] v → ⊥) → Fails t (r .count) steps p
+  way-fails {v = v} {n} u h f s d =
+      let e = out-depth u f in
+      fails s
+      (rw e (record { s = firstOf v; s′ = secondOf v; starts = h .first; starts′ = h .second; leaves = way-leaves (standing .ways .way-out) v u }))
+      (omega (arith, length-wayOut out out-step n v, e, standing .ways .way-out .short v u))
+      (λ same. d (λ m g. rw (follows-unique g f) same))
 
-    pub start-whole : PairIn (t .starts) (t .starts) v → Whole t (walkOf (part middle e after))
-    start-whole p =
-        rw (start-part, out-depth v (l .size) u (l .follows))
-        (record { s = firstOf v; s′ = secondOf v; starts = p .first; starts′ = p .second; leaves = way-leaves (ready .standing .ways .way-out) v u })
+  module _ {into into-step : List ℕ} (way-in : WayIn t (r .count) into into-step) where
+    pub short-in : (v : ℕ) → Useful t v → Short into v
+    short-in = way-short few low way-in
 
-    pub start-length : length after ≡ mostSteps
-    start-length =
-        ap length (l .left)
-        ∙ put-length steps middle (wayOut (k .out) (k .out-step) (l .size) v)
-        (omega (arith, length-wayOut (k .out) (k .out-step) (l .size) v, out-depth v (l .size) u (l .follows), ready .standing .ways .way-out .short v u, few, ready .long-steps))
-        ∙ ready .long-steps
+    in-depth : {v n : ℕ} → Useful t v → Follows into v n → n ≡ way-in .depth v
+    in-depth {v} h f = follows-unique f (way-follows few low way-in v h)
 
-    pub start-bounds : (middle ≤ e) × (e ≤ length after) × (length (part middle e after) ≤ 2 * r .count - 1)
-    start-bounds =
-        let d = out-depth v (l .size) u (l .follows) in
-        let s = ready .standing .ways .way-out .short v u in (
-          omega (arith, l .place),
-          omega (arith, l .place, d, s, few, start-length),
-          omega (arith, ap length start-part, length-wayOut (k .out) (k .out-step) (l .size) v, d, s),
-        )
+    -- the way into i and out of it
+    module _ {i : ℕ} {steps : List ℕ} {p : Place} (u : Useful t i) (s : RoundAt (linksOf into into-step out out-step) i steps p) where
+      round-whole : Whole t (walkOf (wayIn into into-step (s .in-size) i ++ wayOut out out-step (s .out-size) i))
+      round-whole =
+          rw (in-depth u (s .enters), out-depth u (s .leaves), walk-append)
+          (whole t (way-reaches way-in i u) (way-leaves (standing .ways .way-out) i u))
 
-  -- ---- the test at a step
+      round-short : length (wayIn into into-step (s .in-size) i ++ wayOut out out-step (s .out-size) i) ≤ 2 * r .count - 1
+      round-short =
+          omega (
+            arith,
+            length-append (wayIn into into-step (s .in-size) i) (wayOut out out-step (s .out-size) i),
+            length-wayIn into into-step (s .in-size) i,
+            length-wayOut out out-step (s .out-size) i,
+            in-depth u (s .enters),
+            out-depth u (s .leaves),
+            way-in .short i u,
+            standing .ways .way-out .short i u,
+          )
 
-  pub entered-length : {i a : ℕ} {entered : List ℕ} → EnteredBy (k .into) (k .into-step) i steps entered a → length entered ≡ mostSteps
-  entered-length {i} {a} c =
-      ap length (c .left)
-      ∙ put-length steps a (wayIn (k .into) (k .into-step) (c .size) i)
-      (omega (arith, length-wayIn (k .into) (k .into-step) (c .size) i, c .place, ready .long-steps))
-      ∙ ready .long-steps
+      pub round-candidate : Candidate t (part p steps)
+      round-candidate = record { valid = valid; whole = rw (s .stands .is) round-whole; short = rw (s .stands .is) (omega (arith, round-short, few)) }
 
-  module _ (i label j : ℕ) {a e : ℕ} {entered after : List ℕ} (u : Useful t i) (u′ : Useful t j) (move : Moves t i label j)
-      (c : EnteredBy (k .into) (k .into-step) i steps entered a)
-      (l : LeftBy (k .out) (k .out-step) j (set entered middle label) after (middle + 1) e) where
-    front : List ℕ
-    front = wayIn (k .into) (k .into-step) (c .size) i
+      pub round-fails : (Same t (walkOf (part p steps)) → ⊥) → Fails t (r .count) steps p
+      round-fails d = fails (s .stands) round-whole round-short (rw (s .stands .is) at d)
 
-    back : List ℕ
-    back = wayOut (k .out) (k .out-step) (l .size) j
+      -- where its sides write the same
+      pub round-passes : Same t (walkOf (part p steps)) → WayPasses t out out-step (walkOf (wayIn into into-step (s .in-size) i)) i
+      round-passes same n f = rw (s .stands .is, walk-append, follows-unique (s .leaves) f) at same
 
-    front-length : length front ≡ c .size
-    unfolding front
-    front-length = length-wayIn (k .into) (k .into-step) (c .size) i
-
-    back-length : length back ≡ l .size
-    unfolding back
-    back-length = length-wayOut (k .out) (k .out-step) (l .size) j
-
-    written : after ≡ put steps a (front ++ (label ∷ back))
-    unfolding front back
-    written =
-        let inside : a ≤ length steps = omega (arith, c .place, ready .long-steps) in
-        let long = entered-length c in
-        let one : set entered middle label ≡ put steps a (front ++ (label ∷ [])) =
-        put-one entered middle label (omega arith) ∙ ap (λ s. put s middle (label ∷ [])) (c .left)
-        ∙ put-behind steps a front middle (label ∷ []) (omega (arith, front-length, c .place)) inside
-        in
-        l .left ∙ ap (λ s. put s (middle + 1) back) one
-        ∙ put-behind steps a (front ++ (label ∷ [])) (middle + 1) back
-        (omega (arith, length-append front (label ∷ []), front-length, c .place)) inside
-        ∙ ap (put steps a) (append-assoc front (label ∷ []) back)
-
-    walk-length : length (front ++ (label ∷ back)) ≡ c .size + 1 + l .size
-    walk-length = omega (arith, length-append front (label ∷ back), front-length, back-length)
-
-    step-part : part a e after ≡ front ++ (label ∷ back)
-    step-part =
-        ap (part a e) written
-        ∙ part-put steps a e (front ++ (label ∷ back)) (omega (arith, c .place, ready .long-steps)) (omega (arith, walk-length, c .place, l .place))
-
-    pub step-passes : Same t (walkOf (part a e after)) → StepPasses t k i label j
-    unfolding front back
-    step-passes s n m f g =
-        let p : c .size ≡ n = follows-unique (c .follows) f in
-        let q : l .size ≡ m = follows-unique (l .follows) g in
-        rw (step-part, p, q) at s
-
-    pub step-whole : Whole t (walkOf (part a e after))
-    unfolding front back
-    step-whole =
-        rw (step-part, in-depth i (c .size) u (c .follows), out-depth j (l .size) u′ (l .follows), walk-append)
-        (whole t (way-reaches (ready .way-in) i u) (leaves-step (move-walk (stepOf label) move) (way-leaves (ready .standing .ways .way-out) j u′)))
-
-    pub step-length : length after ≡ mostSteps
-    step-length =
-        ap length written
-        ∙ put-length steps a (front ++ (label ∷ back))
-        (omega (arith, walk-length, c .place, out-depth j (l .size) u′ (l .follows), ready .standing .ways .way-out .short j u′, few, ready .long-steps))
-        ∙ ready .long-steps
-
-    pub step-bounds : (a ≤ e) × (e ≤ length after) × (length (part a e after) ≤ 2 * r .count - 1)
-    step-bounds =
-        let d = in-depth i (c .size) u (c .follows) in
-        let d′ = out-depth j (l .size) u′ (l .follows) in
-        let s = ready .way-in .short i u in
-        let s′ = ready .standing .ways .way-out .short j u′ in (
-          omega (arith, c .place, l .place),
-          omega (arith, l .place, d′, s′, few, step-length),
-          omega (arith, ap length step-part, walk-length, d, d′, s, s′),
-        )
-
-  -- ---- the way into a pair and out of it
-
-  module _ (i : ℕ) {a e : ℕ} {entered after : List ℕ} (u : Useful t i)
-      (c : EnteredBy (k .into) (k .into-step) i steps entered a)
-      (l : LeftBy (k .out) (k .out-step) i entered after middle e) where
-    way-in : List ℕ
-    way-in = wayIn (k .into) (k .into-step) (c .size) i
-
-    way-out : List ℕ
-    way-out = wayOut (k .out) (k .out-step) (l .size) i
-
-    round-written : after ≡ put steps a (way-in ++ way-out)
-    unfolding way-in way-out
-    round-written =
-        l .left ∙ ap (λ s. put s middle way-out) (c .left)
-        ∙ put-behind steps a way-in middle way-out
-        (omega (arith, length-wayIn (k .into) (k .into-step) (c .size) i, c .place)) (omega (arith, c .place, ready .long-steps))
-
-    round-size : length (way-in ++ way-out) ≡ c .size + l .size
-    unfolding way-in way-out
-    round-size =
-        omega (
+    -- the way into i, the step and the way out of j, where the sides of the way into i and out of it write the same
+    pub through-fails : {i label j : ℕ} {steps₀ steps : List ℕ} {p₀ p : Place} (u : Useful t i) → Useful t j → Moves t i label j
+        → RoundAt (linksOf into into-step out out-step) i steps₀ p₀ → Same t (walkOf (part p₀ steps₀))
+        → ThroughAt (linksOf into into-step out out-step) i label j steps p
+        → ((w : List Step) → WayPasses t out out-step w i → WayPasses t out out-step (w ++ (stepOf label ∷ [])) j → ⊥) → Fails t (r .count) steps p
+    through-fails {i} {label} {j} u u′ move n same₀ s d =
+        let front = wayIn into into-step (s .in-size) i in
+        let back = wayOut out out-step (s .out-size) j in
+        let e = in-depth u (s .enters) in
+        let e′ = out-depth u′ (s .leaves) in
+        fails (s .stands)
+        (rw (e, e′, walk-append) (whole t (way-reaches way-in i u) (leaves-step (move-walk (stepOf label) move) (way-leaves (standing .ways .way-out) j u′))))
+        (omega (
           arith,
-          length-append way-in way-out,
-          length-wayIn (k .into) (k .into-step) (c .size) i,
-          length-wayOut (k .out) (k .out-step) (l .size) i,
-        )
-
-    round-part : part a e after ≡ way-in ++ way-out
-    round-part =
-        ap (part a e) round-written
-        ∙ part-put steps a e (way-in ++ way-out) (omega (arith, c .place, ready .long-steps)) (omega (arith, round-size, c .place, l .place))
-
-    pub round-passes : Same t (walkOf (part a e after)) → RoundPasses t k i
-    unfolding way-in way-out
-    round-passes s n m f g =
-        let p : c .size ≡ n = follows-unique (c .follows) f in
-        let q : l .size ≡ m = follows-unique (l .follows) g in
-        rw (round-part, p, q) at s
-
-    pub round-whole : Whole t (walkOf (part a e after))
-    unfolding way-in way-out
-    round-whole =
-        rw (round-part, in-depth i (c .size) u (c .follows), out-depth i (l .size) u (l .follows), walk-append)
-        (whole t (way-reaches (ready .way-in) i u) (way-leaves (ready .standing .ways .way-out) i u))
-
-    pub round-length : length after ≡ mostSteps
-    round-length =
-        ap length round-written
-        ∙ put-length steps a (way-in ++ way-out)
-        (omega (arith, round-size, c .place, out-depth i (l .size) u (l .follows), ready .standing .ways .way-out .short i u, few, ready .long-steps))
-        ∙ ready .long-steps
-
-    pub round-bounds : (a ≤ e) × (e ≤ length after) × (length (part a e after) ≤ 2 * r .count - 1)
-    round-bounds =
-        let d = in-depth i (c .size) u (c .follows) in
-        let d′ = out-depth i (l .size) u (l .follows) in
-        let s = ready .way-in .short i u in
-        let s′ = ready .standing .ways .way-out .short i u in (
-          omega (arith, c .place, l .place),
-          omega (arith, l .place, d′, s′, few, round-length),
-          omega (arith, ap length round-part, round-size, d, d′, s, s′),
-        )
+          length-append front (label ∷ back),
+          length-wayIn into into-step (s .in-size) i,
+          length-wayOut out out-step (s .out-size) j,
+          e,
+          e′,
+          way-in .short i u,
+          standing .ways .way-out .short j u′,
+        ))
+        (λ same. d (walkOf front) (rw (follows-unique (n .enters) (s .enters)) at (round-passes u n same₀))
+        (λ m f. rw (append-assoc (walkOf front) (stepOf label ∷ []) (walkOf (wayOut out out-step m j)), follows-unique f (s .leaves)) (rw walk-append at same)))

@@ -2,25 +2,26 @@
 -- between useful pairs, the equation. Where one fails, a walk is found whose two sides write different words.
 use mathlib.Core.Path.{_≡_}
 use mathlib.Core.Bool.{Bool, true, false}
-use mathlib.Core.List.{List, _∷_, _++_}
+use mathlib.Core.List.{List, [], _∷_, _++_}
 use mathlib.Core.Logic.{_≢_}
 use Prim.Native.Nat.{ℕ, _+_, _*_, _-_, _≤_, _<_}
-use lib.ListN.{length, take, drop, getD}
+use lib.ListN.{length, take, getD}
 use Rattle.transducer.specs.Valid.{validOf}
+use Rattle.transducer.specs.Paths.{Functional}
+use Rattle.transducer.specs.Walks.{Step}
 use Rattle.transducer.specs.declared.StateSet.{StateSet}
 use Rattle.transducer.specs.declared.Transducer.{Transducer}
-use Rattle.product.specs.Numbers.{mostPairs, noStep, PairIn, Moves}
+use Rattle.product.specs.Numbers.{mostPairs, noStep, stepOf, PairIn, Moves}
 use Rattle.product.specs.Machine.{Machine}
 use Rattle.product.specs.Steps.{Steps, targetOf}
-use Rattle.pairs.specs.Ways.{Useful, WaysOut, WayIn}
+use Rattle.pairs.specs.Ways.{Useful, WaysOut}
 use Rattle.pairs.specs.declared.UsefulPairs.{UsefulPairs}
 use Rattle.witness.specs.Walk.{walkOf, Same, Whole}
 use Rattle.delays.specs.WaysOut.{level, Grounds}
 use Rattle.delays.specs.Needs.{needsOf, StepHolds, Fronts}
-use Rattle.equations.specs.Links.{mostSteps, Follows, wayIn, wayOut}
+use Rattle.equations.specs.Links.{Follows, wayOut, part}
 use Rattle.equations.specs.declared.Failure.{Failure}
-use Rattle.equations.specs.declared.Found.{Found}
-use Rattle.equations.specs.declared.Found.the-variants.{Nothing, At}
+use Rattle.equations.specs.declared.way.Place.{Place}
 
 -- no label: there are 257 × 257
 abbrev pub fine : ℕ
@@ -30,16 +31,6 @@ fine = noStep
 abbrev pub uneven : ℕ
 uneven = noStep + 1
 
--- the links: into the useful pairs and out of them, with the labels of the steps
-pub record Links : Type 0 where
-  pub into : List ℕ
-  pub into-step : List ℕ
-  pub out : List ℕ
-  pub out-step : List ℕ
-
-abbrev pub linksOf : List ℕ → List ℕ → List ℕ → List ℕ → Links
-linksOf into into-step out out-step = record { into = into; into-step = into-step; out = out; out-step = out-step }
-
 -- what the tests rely on: a transducer that keeps the rules, and the ways out of its useful pairs
 pub record Standing (t : Transducer) (r : UsefulPairs) (out out-step : List ℕ) : Type 0 where
   pub valid : validOf t ≡ true
@@ -47,39 +38,23 @@ pub record Standing (t : Transducer) (r : UsefulPairs) (out out-step : List ℕ)
   pub long-out : length out ≡ mostPairs
   pub long-out-step : length out-step ≡ mostPairs
 
--- what the search for a walk relies on, where a test fails: the ways in besides
-pub record Ready (t : Transducer) (r : UsefulPairs) (k : Links) (steps : List ℕ) : Type 0 where
-  pub standing : Standing t r (k .out) (k .out-step)
-  pub way-in : WayIn t (r .count) (k .into) (k .into-step)
-  pub long-into : length (k .into) ≡ mostPairs
-  pub long-into-step : length (k .into-step) ≡ mostPairs
-  pub long-steps : length steps ≡ mostSteps
+-- the two sides of the steps u and the way out of v write the same
+abbrev pub WayPasses : Transducer → (out out-step : List ℕ) → List Step → ℕ → Type 0
+WayPasses t out out-step u v = (n : ℕ) → Follows out v n → Same t (u ++ walkOf (wayOut out out-step n v))
 
-module _ (t : Transducer) (k : Links) where
-  -- the two sides of the way out of v write the same
-  abbrev pub StartPasses : ℕ → Type 0
-  StartPasses v = (m : ℕ) → Follows (k .out) v m → Same t (walkOf (wayOut (k .out) (k .out-step) m v))
-
-  -- those of the way into i and out of it
-  abbrev pub RoundPasses : ℕ → Type 0
-  RoundPasses i =
-      (n m : ℕ) → Follows (k .into) i n → Follows (k .out) i m
-      → Same t (walkOf (wayIn (k .into) (k .into-step) n i ++ wayOut (k .out) (k .out-step) m i))
-
-  -- those of the way into i, the step with a label, and the way out of j
-  abbrev pub StepPasses : ℕ → ℕ → ℕ → Type 0
-  StepPasses i label j =
-      (n m : ℕ) → Follows (k .into) i n → Follows (k .out) j m
-      → Same t (walkOf (wayIn (k .into) (k .into-step) n i ++ (label ∷ wayOut (k .out) (k .out-step) m j)))
-
--- where a test fails, the two sides of a walk do not write the same: at an uneven pair of start states the way out of it; at a step one of the way
--- into its pair and out of it, and the way into its pair, the step, and the way out of the pair to which it leads
-pub record Differing (t : Transducer) (k : Links) (f : Failure) : Type 0 where
+-- where a test fails: at an uneven pair of start states the two sides of the way out of it do not write the same; at a step from i to j, whatever
+-- walk leads into i, that walk and the way out of i, or that walk, the step and the way out of j, have two sides that do not
+pub record Differing (t : Transducer) (out out-step : List ℕ) (f : Failure) : Type 0 where
   pub useful : Useful t (f .from)
-  pub start : f .label ≡ uneven → PairIn (t .starts) (t .starts) (f .from) × (StartPasses t k (f .from) → ⊥)
+  pub start : f .label ≡ uneven → PairIn (t .starts) (t .starts) (f .from) × (WayPasses t out out-step [] (f .from) → ⊥)
   pub step : f .label ≢ uneven
       → Useful t (f .to) × Moves t (f .from) (f .label) (f .to)
-      × (RoundPasses t k (f .from) → StepPasses t k (f .from) (f .label) (f .to) → ⊥)
+      × ((u : List Step) → WayPasses t out out-step u (f .from) → WayPasses t out out-step (u ++ (stepOf (f .label) ∷ [])) (f .to) → ⊥)
+
+-- the answer of all tests: none fails, and the transducer is functional, or one does
+pub record Tested (t : Transducer) (out out-step : List ℕ) (r : Failure) : Type 0 where
+  pub passed : r .label ≡ fine → Functional t
+  pub failing : r .label ≢ fine → Differing t out out-step r
 
 -- ---- the test at a pair
 
@@ -143,22 +118,12 @@ module _ (starts : StateSet) (m written out out-step gap : List ℕ) where
     pub passed : r .label ≡ fine → getD gap i 0 ≢ 0 → PairPasses i
     pub failing : r .label ≢ fine → Broken (r .from) (r .label) (r .to)
 
--- ---- what is found
+-- ---- the walk that is found
 
--- the elements from a up to e
-abbrev pub part : ℕ → ℕ → List ℕ → List ℕ
-part a e l = take (e - a) (drop a l)
-
--- a test that fails: the labels from a up to e are those of a walk from two start states to two final states, of at most 2u - 1 steps, whose sides
--- write different words
-pub record Fails (t : Transducer) (u : ℕ) (steps : List ℕ) (a e : ℕ) : Type 0 where
-  pub order : a ≤ e
-  pub inside : e ≤ length steps
-  pub whole : Whole t (walkOf (part a e steps))
-  pub differ : Same t (walkOf (part a e steps)) → ⊥
-  pub short : length (part a e steps) ≤ 2 * u - 1
-
--- what the answer of a test says: nothing was found, so P holds; or a test fails
-abbrev pub Answers : Transducer → ℕ → List ℕ → Type 0 → Found → Type 0
-Answers t u steps P Nothing = P
-Answers t u steps P (At a e) = Fails t u steps a e
+-- the labels at the place p are those of a walk from two start states to two final states, of at most 2u - 1 steps, whose sides write different words
+pub record Fails (t : Transducer) (u : ℕ) (steps : List ℕ) (p : Place) : Type 0 where
+  pub order : p .start ≤ p .end
+  pub inside : p .end ≤ length steps
+  pub whole : Whole t (walkOf (part p steps))
+  pub differ : Same t (walkOf (part p steps)) → ⊥
+  pub short : length (part p steps) ≤ 2 * u - 1

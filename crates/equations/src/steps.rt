@@ -3,13 +3,11 @@
 ghost use mathlib.Core.Path.{_≡_};
 ghost use Rattle.delays.specs.Needs.{StepHolds};
 ghost use Rattle.equations.specs.Tests.{Testing, Tried};
+use crate::FINE;
 use crate::Failure;
 use delays::equation;
 use product::steps;
 use product::steps::NO_STEP;
-
-// No label: what stands for one where there is no step.
-pub const FINE: u32 = NO_STEP;
 
 // All steps from i.
 pub fn all(

@@ -1,12 +1,61 @@
-// The ways into and out of a pair of states, written as the labels of their steps. The contracts cite specs/Links.antt.
+// The ways into and out of a pair of states, and walks made of them, written as the labels of their steps. The contracts cite specs/Links.antt.
 ghost use mathlib.Core.Path.{_≡_};
 ghost use Prim.Native.Nat.{_+_, _≤_};
 ghost use lib.ListN.{length};
 ghost use Rattle.product.specs.Numbers.{mostPairs};
-ghost use Rattle.equations.specs.Links.{mostSteps, middle, Short, EnteredBy, LeftBy};
+ghost use Rattle.equations.specs.Links.{linksOf, mostSteps, middle, Short, Lists, EnteredBy, LeftBy, RoundAt, ThroughAt};
 
 // The place of the step in the middle of a walk.
 pub const MIDDLE: usize = 1023;
+
+// Where a walk stands in a list of labels: from the place `start` up to the place `end`.
+pub struct Place {
+    pub start: usize,
+    pub end: usize,
+}
+
+// Writes the way into the pair i and out of it.
+pub fn round(
+    into: &[u16],
+    into_step: &[u32],
+    out: &[u16],
+    out_step: &[u32],
+    i: usize,
+    steps: &mut [u32],
+) -> Place
+    requires { ⌜ Lists (linksOf (now into) (now «into_step») (now out) (now «out_step»)) (now steps) ⌝ }
+    requires { ⌜ Short (now into) i × Short (now out) i ⌝ }
+    ensures { λ r. ⌜
+        RoundAt (linksOf (now (into .entry)) (now («into_step» .entry)) (now (out .entry)) (now («out_step» .entry))) i (now (steps .exit)) r
+        ⌝ }
+{
+    let start = enter(into, into_step, i, steps);
+    let end = leave(out, out_step, i, steps, MIDDLE);
+    Place { start, end }
+}
+
+// Writes the way into the pair i, a step with a label, and the way out of the pair j.
+pub fn through(
+    into: &[u16],
+    into_step: &[u32],
+    out: &[u16],
+    out_step: &[u32],
+    i: usize,
+    label: u32,
+    j: usize,
+    steps: &mut [u32],
+) -> Place
+    requires { ⌜ Lists (linksOf (now into) (now «into_step») (now out) (now «out_step»)) (now steps) ⌝ }
+    requires { ⌜ Short (now into) i × Short (now out) j ⌝ }
+    ensures { λ r. ⌜
+        ThroughAt (linksOf (now (into .entry)) (now («into_step» .entry)) (now (out .entry)) (now («out_step» .entry))) i label j (now (steps .exit)) r
+        ⌝ }
+{
+    let start = enter(into, into_step, i, steps);
+    steps[MIDDLE] = label;
+    let end = leave(out, out_step, j, steps, MIDDLE + 1);
+    Place { start, end }
+}
 
 // Writes the labels of the way into the pair v, its last step just before the middle; the place of its first step.
 pub fn enter(link: &[u16], label: &[u32], v: usize, steps: &mut [u32]) -> usize

@@ -1,11 +1,15 @@
 // The functionality test (document 01: the verdict): whether each input word has one output at most, and if not, a word with two. Its contract is
-// `Decided` of specs/Decided.antt. The walks that it compares, and why they are enough, are in the crate `candidates`.
+// `Decided` of specs/Decided.antt. What is tested, and why it is enough, is in the crate `equations`.
 ghost use mathlib.Core.Path.{_≡_};
-ghost use mathlib.Core.Bool.{true};
+ghost use mathlib.Core.Bool.{false, true};
 ghost use Rattle.transducer.specs.Valid.{validOf};
+ghost use Rattle.product.specs.Machine.{ImageOf};
 ghost use Rattle.witness.specs.Showing.{buffersOf};
+ghost use Rattle.equations.specs.Tests.{Standing, Differing};
 ghost use Rattle.functionality.specs.Decided.{fullOf, longEnough, quietVerdict, Decided};
-use equations::Found;
+use equations::FINE;
+use equations::Failure;
+use pairs::UsefulPairs;
 use product::machine;
 use product::machine::PLACES;
 use product::steps::PAIRS;
@@ -114,25 +118,67 @@ fn examine(
     let mut out = [0u16; PAIRS];
     let mut out_step = [0u32; PAIRS];
     let mut order = [0u32; PAIRS];
-    let mut steps = [0u32; STEPS];
     let found = pairs::ways_out(t, &m, &mut out, &mut out_step, &mut order);
-    match equations::search(t, &m, found, &out, &out_step, &mut steps) {
-        Found::Nothing => quiet(Outcome::Functional, found.count),
-        Found::At(start, end) => {
-            let counts = witness::show(
-                t,
-                &steps[start..end],
-                word,
-                path_a,
-                path_b,
-                output_x,
-                output_y,
-            );
-            Verdict {
-                outcome: Outcome::NotFunctional,
-                useful: found.count,
-                counts,
-            }
-        }
+    let failure = equations::search(t, &m, found, &out, &out_step);
+    if failure.label == FINE {
+        return quiet(Outcome::Functional, found.count);
+    }
+    split(
+        t,
+        &m,
+        found,
+        &out,
+        &out_step,
+        failure,
+        word,
+        path_a,
+        path_b,
+        output_x,
+        output_y,
+    )
+}
+
+// The verdict on a transducer at which a test fails: the walk that shows it is put into the buffers.
+fn split(
+    t: Transducer,
+    m: &[u16],
+    found: UsefulPairs,
+    out: &[u16],
+    out_step: &[u32],
+    failure: Failure,
+    word: &mut [u8],
+    path_a: &mut [u16],
+    path_b: &mut [u16],
+    output_x: &mut [u8],
+    output_y: &mut [u8],
+) -> Verdict
+    requires { ⌜ Standing t found (now out) (now «out_step») ⌝ }
+    requires { ⌜ ImageOf t false (now m) ⌝ }
+    requires { ⌜ Differing t (now out) (now «out_step») failure ⌝ }
+    requires { ⌜ fullOf (buffersOf (now word) (now «path_a») (now «path_b») (now «output_x») (now «output_y»)) ≡ true ⌝ }
+    ensures { λ r. ⌜
+        Decided t
+        (buffersOf (now (word .entry)) (now («path_a» .entry)) (now («path_b» .entry)) (now («output_x» .entry)) (now («output_y» .entry)))
+        (buffersOf (now (word .exit)) (now («path_a» .exit)) (now («path_b» .exit)) (now («output_x» .exit)) (now («output_y» .exit)))
+        r
+        ⌝ }
+{
+    let mut steps = [0u32; STEPS];
+    let place = equations::walk(t, m, found, out, out_step, failure, &mut steps);
+    let start = place.start;
+    let end = place.end;
+    let counts = witness::show(
+        t,
+        &steps[start..end],
+        word,
+        path_a,
+        path_b,
+        output_x,
+        output_y,
+    );
+    Verdict {
+        outcome: Outcome::NotFunctional,
+        useful: found.count,
+        counts,
     }
 }

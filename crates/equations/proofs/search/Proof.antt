@@ -1,17 +1,32 @@
 -- `search` meets its contract. Assumes nothing.
-use mathlib.Core.Path.{refl}
 use Rattle.product.specs.Numbers.{mostPairs}
-use Rattle.equations.proofs.TestLaws.{answers, ready-now}
-use Rattle.equations.proofs.SearchLaws.{zeros, valid, led-out, member-useful, meant, measured, all-pass, differing}
+use Rattle.equations.proofs.TestLaws.{valid}
+use Rattle.equations.proofs.SearchLaws.{zeros, led-out, member-useful, meant, measured, tested}
 use borrow.Author.Needs.{needs}
 use Rattle.equations.proofs.search.Statement.{statement}
 use Rattle.equations.proofs.search.Tie as tie
+
+-- ---- places: the outputs are written, the gaps are known, the tests are made
+
+abbrev start : tie.After-written → tie.Start
+start c = c .before .before .before .before
+
+abbrev outputs : tie.After-gap → tie.After-fill
+outputs c = c .before .before .before .before .before .before
+
+abbrev gaps : tie.After-y → tie.After-fill2
+gaps c = c .before .before .before .before .before .before
+
+abbrev tried : tie.After-y2 → tie.After-try-pairs
+tried c = c .before .before
+
+-- ---- needs
 
 slice-aggregate-fill : tie.Need-slice-aggregate-fill
 slice-aggregate-fill c = search needs
 
 fill-requires : tie.Need-fill-requires
-fill-requires c κs = (valid (c .before .before .before .before .before .pre .0), search needs)
+fill-requires c κs = (valid (start c .pre .0), search needs)
 
 slice-aggregate-fill-2 : tie.Need-slice-aggregate-fill-2
 slice-aggregate-fill-2 c = search needs
@@ -24,8 +39,8 @@ slice-aggregate-fill-4 c = search needs
 
 fill-requires-2 : tie.Need-fill-requires-2
 fill-requires-2 c κs =
-    let y = c .before .before .before .before .before .before .before .before .before .before .before .before .pre .0 in
-    let o = c .before .before .before .before .before .before .fill .ensures in (
+    let y = start (outputs c .before) .pre .0 in
+    let o = outputs c .fill .ensures in (
       record { outputs = o .outputs; long-link = y .long-out; long-label = y .long-out-step },
       (y .ways .pairs .long, (search needs, (zeros mostPairs, λ v h e. led-out y v (member-useful y v h e)))),
     )
@@ -44,45 +59,17 @@ slice-aggregate-try-pairs-4 c = search needs
 
 try-pairs-requires : tie.Need-try-pairs-requires
 try-pairs-requires c κs =
-    let a = c .before .before .before .before .before .before .before .before .before .before .before .before .before .before .before .before .before .before .before .pre in
-    let f = c .before .before .before .before .before .before .fill2 in
-    (measured (meant (a .0) (a .1 .0) (c .before .before .before .before .before .before .before .before .before .before .before .before .before .fill .ensures) (f .kept .1 .1 .1 .1 .0) (f .ensures)), (search needs, search needs))
+    let g = gaps c in
+    let o = outputs (g .before) in
+    let a = start (o .before) .pre in
+    (measured (meant (a .0) (a .1) (o .fill .ensures) (g .fill2 .kept .1 .1 .1 .1 .0) (g .fill2 .ensures)), (search needs, search needs))
 
 returns : tie.Need-returns
 returns c =
-    let a = c .before .before .before .before .before .before .before .before .before .before .before .before .before .before .before .before .before .before .before .before .before .before .before .before .pre in
-    let f = c .before .before .before .before .before .before .before .before .before .before .before .fill2 in
-    all-pass (a .0) (meant (a .0) (a .1 .0) (c .before .before .before .before .before .before .before .before .before .before .before .before .before .before .before .before .before .before .fill .ensures) (f .kept .1 .1 .1 .1 .0) (f .ensures)) (c .before .before .before .before .try-pairs .ensures .passed (c .if1 .taken))
-
-slice-aggregate-ways-in : tie.Need-slice-aggregate-ways-in
-slice-aggregate-ways-in c = search needs
-
-slice-aggregate-ways-in-2 : tie.Need-slice-aggregate-ways-in-2
-slice-aggregate-ways-in-2 c = search needs
-
-ways-in-requires : tie.Need-ways-in-requires
-ways-in-requires c κs = let a = c .before .before .before .before .before .before .before .before .before .before .before .before .before .before .before .before .before .before .before .before .before .before .before .before .before .before .pre in (valid (a .0), (a .1 .0, (a .0 .ways .pairs, (refl, refl))))
-
-slice-aggregate-broken-found : tie.Need-slice-aggregate-broken-found
-slice-aggregate-broken-found c = search needs
-
-slice-aggregate-broken-found-2 : tie.Need-slice-aggregate-broken-found-2
-slice-aggregate-broken-found-2 c = search needs
-
-broken-found-requires : tie.Need-broken-found-requires
-broken-found-requires c κs =
-    let a = c .before .before .before .before .before .before .before .before .before .before .before .before .before .before .before .before .before .before .before .before .before .before .before .before .before .before .before .before .before .before .before .before .pre in
-    let f = c .before .before .before .before .before .before .before .before .before .before .before .before .before .before .before .before .before .before .before .fill2 in
-    let w = c .before .before .before .before .before .ways-in in
-    let s = meant (a .0) (a .1 .0) (c .before .before .before .before .before .before .before .before .before .before .before .before .before .before .before .before .before .before .before .before .before .before .before .before .before .before .fill .ensures) (f .kept .1 .1 .1 .1 .0) (f .ensures) in
-    let y = ready-now (a .0) (w .ensures) (w .kept .1 .1 .1 .0) (w .kept .1 .1 .1 .1 .0) (a .1 .1) in
-    (y, differing y s (c .before .before .before .before .before .before .before .before .before .before .before .before .try-pairs .result) (c .before .before .before .before .before .before .before .before .before .before .before .before .try-pairs .ensures .failing (c .before .before .before .before .before .before .before .before .if1 .left)))
-
-same-length : tie.Need-same-length
-same-length c = search needs
-
-returns-2 : tie.Need-returns-2
-returns-2 c = let b = c .before .before .broken-found in answers _ _ _ (b .result) (λ z. absurd z) (b .ensures)
+    let g = gaps (tried c .before) in
+    let o = outputs (g .before) in
+    let a = start (o .before) .pre in
+    tested (a .0) (meant (a .0) (a .1) (o .fill .ensures) (g .fill2 .kept .1 .1 .1 .1 .0) (g .fill2 .ensures)) (tried c .try-pairs .ensures)
 
 pub search-spec : {M : Type 1} → statement M
 search-spec =
@@ -99,12 +86,4 @@ search-spec =
     slice-aggregate-try-pairs-3
     slice-aggregate-try-pairs-4
     try-pairs-requires
-    returns
-    slice-aggregate-ways-in
-    slice-aggregate-ways-in-2
-    ways-in-requires
-    slice-aggregate-broken-found
-    slice-aggregate-broken-found-2
-    broken-found-requires
-    same-length
-    returns-2)
+    returns)

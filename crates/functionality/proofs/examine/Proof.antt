@@ -1,19 +1,35 @@
 -- `examine` meets its contract. Assumes nothing.
 use mathlib.Core.Path.{refl}
-use native.Mathlib.Omega.{arith}
 use borrow.Author.Needs.{needs}
 use Rattle.transducer.proofs.Facts.{valid-exactly}
-use Rattle.pairs.proofs.PairSetLaws.{at-most-pairs}
-use Rattle.equations.proofs.TestLaws.{found-nothing, found-at}
-use Rattle.functionality.proofs.VerdictLaws.{refusal-none, full, counted, decides-single, decides-split, showing-within}
+use Rattle.functionality.proofs.VerdictLaws.{refusal-none, counted, decides-single}
 use Rattle.functionality.proofs.examine.Statement.{statement}
 use Rattle.functionality.proofs.examine.Tie as tie
+
+-- ---- places: the machine is built, the ways out are found, the tests are made
+
+abbrev start : tie.After-m → tie.Start
+start c = c .before .before .before .before .before .before
+
+abbrev built : tie.After-order → tie.After-by-input
+built c = c .before .before .before .before .before
+
+abbrev led : tie.After-out-step3 → tie.After-ways-out
+led c = c .before .before .before .before .before .before
+
+abbrev single : tie.After-quiet → tie.After-search
+single c = c .before .before .before
+
+abbrev failing : tie.After-split-arg5 → tie.Else1
+failing c = c .before .before .before .before .before .before .before .before
+
+-- ---- needs
 
 slice-aggregate-by-input : tie.Need-slice-aggregate-by-input
 slice-aggregate-by-input c = search needs
 
 by-input-requires : tie.Need-by-input-requires
-by-input-requires c κs = (valid-exactly _ .0 (c .before .before .before .before .before .before .pre .0), refl)
+by-input-requires c κs = (valid-exactly _ .0 (start c .pre .0), refl)
 
 slice-aggregate-ways-out : tie.Need-slice-aggregate-ways-out
 slice-aggregate-ways-out c = search needs
@@ -28,7 +44,7 @@ slice-aggregate-ways-out-4 : tie.Need-slice-aggregate-ways-out-4
 slice-aggregate-ways-out-4 c = search needs
 
 ways-out-requires : tie.Need-ways-out-requires
-ways-out-requires c κs = (valid-exactly _ .0 (c .before .before .before .before .before .before .before .before .before .before .before .before .pre .0), (c .before .before .before .before .before .by-input .ensures, (refl, (refl, refl))))
+ways-out-requires c κs = (valid-exactly _ .0 (start (built c .before) .pre .0), (built c .by-input .ensures, (refl, (refl, refl))))
 
 slice-aggregate-search : tie.Need-slice-aggregate-search
 slice-aggregate-search c = search needs
@@ -39,49 +55,41 @@ slice-aggregate-search-2 c = search needs
 slice-aggregate-search-3 : tie.Need-slice-aggregate-search-3
 slice-aggregate-search-3 c = search needs
 
-slice-aggregate-search-4 : tie.Need-slice-aggregate-search-4
-slice-aggregate-search-4 c = search needs
-
 search-requires : tie.Need-search-requires
 search-requires c κs =
-    let w = c .before .before .before .before .before .before .before .ways-out in (
-      record { valid = c .before .before .before .before .before .before .before .before .before .before .before .before .before .before .before .before .before .before .before .before .pre .0; ways = w .ensures .0; long-out = w .kept .1 .1 .0; long-out-step = w .kept .1 .1 .1 .0 },
-      (c .before .before .before .before .before .before .before .before .before .before .before .before .before .by-input .ensures, refl),
-    )
-
-enum-told : tie.Need-enum-told
-enum-told c = search needs
+    let w = led c .ways-out in
+    let b = built (led c .before) in
+    (record { valid = start (b .before) .pre .0; ways = w .ensures .0; long-out = w .kept .1 .1 .0; long-out-step = w .kept .1 .1 .1 .0 }, b .by-input .ensures)
 
 quiet-requires : tie.Need-quiet-requires
 quiet-requires c κs = search needs
 
-enum-known-start : tie.Need-enum-known-start
-enum-known-start c = search needs
-
-mul-show : tie.Need-mul-show
-mul-show c = let f = found-at _ (c .before .start .given .1) (c .before .before .before .before .search .ensures) in omega (arith, f .order, f .inside)
-
-sub-show : tie.Need-sub-show
-sub-show c = (found-at _ (c .before .start .given .1) (c .before .before .before .before .search .ensures)) .order
-
-part-show-start : tie.Need-part-show-start
-part-show-start c = (found-at _ (c .before .before .start .given .1) (c .before .before .before .before .before .search .ensures)) .order
-
-part-show-end : tie.Need-part-show-end
-part-show-end c = (found-at _ (c .before .before .start .given .1) (c .before .before .before .before .before .search .ensures)) .inside
-
-show-requires : tie.Need-show-requires
-show-requires c κs =
-    let a = c .before .before .before .before .before .before .before .before .before .before .before .before .before .before .before .before .before .before .before .before .before .before .before .before .before .before .before .before .before .before .before .before in
-    let f = found-at _ (c .before .before .before .before .before .before .before .before .start .given .1) (c .before .before .before .before .before .before .before .before .before .before .before .search .ensures) in
-    let few = at-most-pairs (c .before .before .before .before .before .before .before .before .before .before .before .before .before .before .before .before .before .before .before .ways-out .ensures .0 .pairs) in
-    (record { valid = valid-exactly _ .0 (a .pre .0); whole = f .whole; short = omega (arith, f .short, few) }, (f .differ, full _ (a .pre .1)))
-
 returns : tie.Need-returns
 returns c =
-    let a = c .before .before .before .before .before .before .before .before .before .before .before .before .before .before .before .before .before .before .before .before .before .before .before .before .before in
-    let k = found-nothing _ _ _ (c .before .enum-told .given .1) (c .before .before .before .before .search .ensures) in
-    rw (c .quiet .ensures) (decides-single (refusal-none _ _ (a .pre .0) (a .pre .1)) (counted (a .pre .0) (c .before .before .before .before .before .before .before .before .before .before .before .before .ways-out .ensures .0 .pairs)) k)
+    let s = single c in
+    let l = led (s .before) in
+    let a = start (built (l .before) .before) .pre in
+    rw (c .quiet .ensures)
+    (decides-single (refusal-none _ _ (a .0) (a .1)) (counted (a .0) (l .ways-out .ensures .0 .pairs)) (s .search .ensures .passed (c .before .if1 .taken)))
+
+slice-aggregate-split : tie.Need-slice-aggregate-split
+slice-aggregate-split c = search needs
+
+slice-aggregate-split-2 : tie.Need-slice-aggregate-split-2
+slice-aggregate-split-2 c = search needs
+
+slice-aggregate-split-3 : tie.Need-slice-aggregate-split-3
+slice-aggregate-split-3 c = search needs
+
+split-requires : tie.Need-split-requires
+split-requires c κs =
+    let f = failing c in
+    let s = f .before .before in
+    let l = led (s .before) in
+    let b = built (l .before) in
+    let a = start (b .before) .pre in
+    let w = l .ways-out in
+    (record { valid = a .0; ways = w .ensures .0; long-out = w .kept .1 .1 .0; long-out-step = w .kept .1 .1 .1 .0 }, (b .by-input .ensures, (s .search .ensures .failing (f .if1 .left), a .1)))
 
 same-length : tie.Need-same-length
 same-length c = search needs
@@ -99,10 +107,7 @@ same-length-5 : tie.Need-same-length-5
 same-length-5 c = search needs
 
 returns-2 : tie.Need-returns-2
-returns-2 c =
-    let a = c .before .before .before .before .before .before .before .before .before .before .before .before .before .before .before .before .before .before .before .before .before .before .before .before .before .before .before .before .before .before .before .before .before .before .before .before .before .before .before .before .before .before .before in
-    let f = found-at _ (c .before .before .before .before .before .before .before .before .before .before .before .before .before .before .before .before .before .before .before .start .given .1) (c .before .before .before .before .before .before .before .before .before .before .before .before .before .before .before .before .before .before .before .before .before .before .search .ensures) in
-    decides-split (refusal-none _ _ (a .pre .0) (a .pre .1)) (counted (a .pre .0) (c .before .before .before .before .before .before .before .before .before .before .before .before .before .before .before .before .before .before .before .before .before .before .before .before .before .before .before .before .before .before .ways-out .ensures .0 .pairs)) (showing-within (f .short) (c .before .before .before .before .before .before .before .before .before .before .show .ensures))
+returns-2 c = search needs
 
 pub examine-spec : {M : Type 1} → statement M
 examine-spec =
@@ -118,17 +123,13 @@ examine-spec =
     slice-aggregate-search
     slice-aggregate-search-2
     slice-aggregate-search-3
-    slice-aggregate-search-4
     search-requires
-    enum-told
     quiet-requires
-    enum-known-start
-    mul-show
-    sub-show
-    part-show-start
-    part-show-end
-    show-requires
     returns
+    slice-aggregate-split
+    slice-aggregate-split-2
+    slice-aggregate-split-3
+    split-requires
     same-length
     same-length-2
     same-length-3
