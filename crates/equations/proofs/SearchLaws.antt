@@ -2,13 +2,11 @@
 -- different words. Assumes nothing.
 use mathlib.Core.Path.{_≡_, refl, sym, ap, _∙_}
 use mathlib.Core.List.{List, [], _∷_, _++_, append-assoc}
-use mathlib.Core.Bool.{Bool, true, false}
+use mathlib.Core.Bool.{true, false}
 use mathlib.Core.Logic.{_≢_}
-use Prim.Native.Nat.{ℕ, zero, suc, _*_, _≤_, _<_}
+use Prim.Native.Nat.{ℕ, zero, suc, _*_, _-_, _≤_, _<_}
 use native.Mathlib.Omega.{arith}
-use borrow.Author.Tests.{lt-ltb}
 use lib.ListN.{length, getD, replicate}
-use Rattle.transducer.specs.Limits.{mostStates}
 use Rattle.transducer.specs.StateSet.{In}
 use Rattle.transducer.specs.Transition.{bytesOf}
 use Rattle.transducer.specs.Valid.{Valid}
@@ -22,17 +20,17 @@ use Rattle.product.proofs.ImageLaws.{steps-move, move-steps}
 use Rattle.product.proofs.StepLaws.{target-low}
 use Rattle.product.proofs.LabelLaws.{edge-number, label-low}
 use Rattle.product.proofs.LabelLaws.{both-label, left-label, right-label}
-use Rattle.pairs.specs.UsefulPairs.{hasPair}
-use Rattle.pairs.specs.Ways.{Useful}
+use Rattle.pairs.specs.Ways.{Useful, Back}
+use Rattle.pairs.specs.Ways.Back.{stops, goes}
 use Rattle.pairs.specs.declared.UsefulPairs.{UsefulPairs}
 use Rattle.witness.specs.Walk.{walkOf, Same}
 use Rattle.witness.proofs.Fronts.{same-bytes}
-use Rattle.delays.specs.Outputs.{OutputsOf}
-use Rattle.delays.specs.WaysOut.{level, Lists, Led, wordOut, Gaps, Grounds}
+use Rattle.delays.specs.Outputs.{Outputs, OutputsOf}
+use Rattle.delays.specs.WaysOut.{level, Lists, Led, wordOut, Placed, Order, Gaps, Grounds}
 use Rattle.delays.specs.Needs.{StepHolds}
-use Rattle.delays.proofs.WayOutLaws.{word-short}
+use Rattle.delays.proofs.WayOutLaws.{placed-more, grounds, gap-there}
 use Rattle.equations.specs.Links.{wayOut}
-use Rattle.equations.specs.Tests.{Standing, WayPasses, Differing, Tested, Measured, PairPasses, Broken, AllTried}
+use Rattle.equations.specs.Tests.{Standing, Listed, WayPasses, Differing, Tested, Measured, Places, PairPasses, Broken, AllTried}
 use Rattle.equations.specs.declared.Failure.{Failure}
 use Rattle.equations.proofs.Equations as equations
 use Rattle.equations.proofs.OutWords.{way-led, word-is, right-needs, left-needs, equation-exactly}
@@ -58,11 +56,11 @@ label-of valid p q p′ q′ (right m) move =
     let h = edge-number valid (move .1) in
     record { label = labelOf noTransition m; low = omega arith; is = right-label m h }
 
--- a list of zeros
-pub zeros : (n v : ℕ) → _≡_ {A = ℕ} (getD (replicate n 0) v 0) 0
-zeros zero v = refl
-zeros (suc n) zero = refl
-zeros (suc n) (suc v) = zeros n v
+-- a list of one value
+pub filled : {A : Type 0} (a : A) (n v : ℕ) → getD (replicate n a) v a ≡ a
+filled a zero v = refl
+filled a (suc n) zero = refl
+filled a (suc n) (suc v) = filled a n v
 
 -- what the tests are of: the lists are those of the transducer, and the pairs that count are the useful ones
 pub record Meant (t : Transducer) (m written out out-step gap : List ℕ) : Type 0 where
@@ -71,9 +69,6 @@ pub record Meant (t : Transducer) (m written out out-step gap : List ℕ) : Type
   pub grounds : Grounds written out out-step gap
   pub useful : (v : ℕ) → v < mostPairs → getD gap v 0 ≢ 0 → Useful t v
   pub known : (v : ℕ) → Useful t v → getD gap v 0 ≢ 0
-
-pub measured : {t : Transducer} {m written out out-step gap : List ℕ} → Meant t m written out out-step gap → Measured m written out out-step gap
-measured s = record { machine = s .image .machine; grounds = s .grounds }
 
 module _ {t : Transducer} {r : UsefulPairs} {out out-step : List ℕ} (ready : Standing t r out out-step) where
   abbrev valid : Valid t
@@ -85,61 +80,20 @@ module _ {t : Transducer} {r : UsefulPairs} {out out-step : List ℕ} (ready : S
   abbrev low : (v : ℕ) → Useful t v → v < mostPairs
   low = pairs-low ready
 
+  pub lists-of : {written : List ℕ} → Outputs written → Lists written out out-step
+  lists-of o = record { outputs = o; long-link = ready .long-out; long-label = ready .long-out-step }
+
   pub led-out : (v : ℕ) → Useful t v → Led out out-step v
   led-out = way-led valid few low (ready .ways .way-out)
-
-  -- ---- the members of the set are the useful pairs
-
-  has-is : (v : ℕ) → v < mostPairs → (hasPair (r .set) (firstOf v) (secondOf v) ≡ true → getD (r .set .member) v false ≡ true)
-      × (getD (r .set .member) v false ≡ true → hasPair (r .set) (firstOf v) (secondOf v) ≡ true)
-  unfolding hasPair
-  has-is v h =
-      let n : pairOf (firstOf v) (secondOf v) ≡ v = omega arith in
-      let a = lt-ltb (firstOf v) mostStates (omega arith) in
-      let b = lt-ltb (secondOf v) mostStates (omega arith) in
-      rw (n, a, b) (λ e. e, λ e. e)
-
-  pub member-useful : (v : ℕ) → v < mostPairs → getD (r .set .member) v false ≡ true → Useful t v
-  member-useful v h e = ready .ways .pairs .members (ready .valid) (firstOf v) (secondOf v) .0 (has-is v h .1 e)
-
-  useful-member : (v : ℕ) → Useful t v → getD (r .set .member) v false ≡ true
-  useful-member v u = has-is v (low v u) .0 (ready .ways .pairs .members (ready .valid) (firstOf v) (secondOf v) .1 u)
-
-  -- what the tests rely on
-  module _ {m written gap : List ℕ} (image : ImageOf t false m) (o : OutputsOf t written) (long : length gap ≡ mostPairs)
-      (g : Gaps written out out-step (r .set .member) gap mostPairs) where
-    inside : (v : ℕ) → v < mostPairs → getD gap v 0 ≢ 0 → getD (r .set .member) v false ≡ true
-    inside v h n = go (getD (r .set .member) v false) refl
-      where
-        go : (b : Bool) → getD (r .set .member) v false ≡ b → b ≡ true
-        go true e = refl
-        go false e = absurd (n (g .outside v h e))
-
-    pub meant : Meant t m written out out-step gap
-    meant =
-        let lists : Lists written out out-step = record { outputs = o .outputs; long-link = ready .long-out; long-label = ready .long-out-step } in
-        record {
-          image = image;
-          outputs = o;
-          grounds =
-              record {
-                lists = lists;
-                long-gap = long;
-                ways = λ v h n. led-out v (member-useful v h (inside v h n));
-                gaps = λ v h n. g .inside v h (inside v h n);
-              };
-          useful = λ v h n. member-useful v h (inside v h n);
-          known = λ v u z. omega (arith, g .inside v (low v u) (useful-member v u) .balance, word-short lists false (led-out v u));
-        }
 
   -- ---- where all pass
 
   module _ {m written gap : List ℕ} (s : Meant t m written out out-step gap)
-      (pass : (i : ℕ) → i < mostPairs → getD gap i 0 ≢ 0 → PairPasses (t .starts) m written out out-step gap i) where
+      (pass : (i : ℕ) → getD gap i 0 ≢ 0 → PairPasses (t .starts) m written out out-step gap i) where
     at-pair : (p q : ℕ) → UsefulPair t p q → PairPasses (t .starts) m written out out-step gap (pairOf p q)
     at-pair p q h =
         let u = numbered-useful (ready .valid) (ready .ways) p q h in
-        pass (pairOf p q) (low (pairOf p q) u) (s .known (pairOf p q) u)
+        pass (pairOf p q) (s .known (pairOf p q) u)
 
     starts-pass : (p q : ℕ) → UsefulPair t p q → In (t .starts) p → In (t .starts) q
         → equations.left t (outWalk (ready .valid) (ready .ways) p q) ≡ equations.right t (outWalk (ready .valid) (ready .ways) p q)
@@ -210,5 +164,61 @@ module _ {t : Transducer} {r : UsefulPairs} {out out-step : List ℕ} (ready : S
 
     -- ---- the answer of all tests
 
-    pub tested : {f : Failure} → AllTried (t .starts) m written out out-step gap mostPairs f → Tested t out out-step f
+    pub tested : {f : Failure} → AllTried (t .starts) m written out out-step gap f → Tested t out out-step f
     tested {f} a = record { passed = λ e. all-pass s (a .passed e); failing = λ n. differing f (a .failing n) }
+
+-- ---- what the tests are told, in the lists that they use
+
+module _ {t : Transducer} {u : ℕ} {out out-step order : List ℕ} (listed : Listed t u out out-step order) where
+  -- the order as the gaps need it
+  pub order-led : Order out out-step order u
+  order-led =
+      let d = listed .discovered in
+      record {
+        long = d .long;
+        few = d .few;
+        ways = λ h l. led-out (listed .standing) (getD order h 0) (d .useful h l);
+        earlier = λ h l n. earlier h n (d .back h l);
+      }
+    where
+      earlier : (h : ℕ) → getD out (getD order h 0) 0 ≢ 0 → Back out order h → Placed order h (getD out (getD order h 0) 0 - 1)
+      earlier h n (stops z) = absurd (n z)
+      earlier h n (goes j low e) = record { place = j; low = low; is = omega (arith, e) }
+
+  module _ {m written gap : List ℕ} (image : ImageOf t false m) (o : OutputsOf t written) (long : length gap ≡ mostPairs)
+      (g : Gaps written out out-step order u gap) where
+    lists-led : Lists written out out-step
+    lists-led = lists-of (listed .standing) (o .outputs)
+
+    -- the pairs with a place are the useful ones, and those that count
+    pub meant : Meant t m written out out-step gap
+    meant =
+        record {
+          image = image;
+          outputs = o;
+          grounds = grounds lists-led order-led long g;
+          useful = λ v _ n. let p = g .only v n in rw (p .is) at (listed .discovered .useful (p .place) (p .low));
+          known = λ v h. let p = listed .discovered .place v h in gap-there lists-led order-led g (record { place = p .0; low = p .1; is = p .2 });
+        }
+
+    pub measured : Measured m written out out-step gap
+    measured =
+        record {
+          machine = image .machine;
+          grounds = meant .grounds;
+          onward = λ v n h.
+              let p = g .only v n in
+              let q : Placed order (p .place) (getD out v 0 - 1) = rw (p .is) at (order-led .earlier (p .place) (p .low) (rw (p .is) h)) in
+              gap-there lists-led order-led g (placed-more (omega (arith, p .low)) q);
+        }
+
+    pub places : Places order u gap
+    places =
+        let d = listed .discovered in
+        record {
+          long = d .long;
+          few = d .few;
+          low = d .low;
+          counts = λ h l. gap-there lists-led order-led g (record { place = h; low = l; is = refl });
+          all = g .only;
+        }

@@ -1,73 +1,99 @@
 -- Laws of the tests at the steps from a pair and at the pairs: what the equation says of one step, and the answers joined. Assumes nothing.
 use mathlib.Core.Path.{_≡_, refl, sym, ap, _∙_, subst}
-use mathlib.Core.Bool.{Bool, true, false}
+use mathlib.Core.Bool.{Bool, true, false, false≢true}
 use mathlib.Core.List.{List}
 use mathlib.Core.Logic.{_≢_}
-use Prim.Native.Nat.{ℕ, _+_, _≤_, _<_}
+use Prim.Native.Nat.{ℕ, _+_, _-_, _≤_, _<_}
 use native.Mathlib.Omega.{arith}
-use borrow.Author.Tests.{ltb-true, ltb-false}
-use lib.Dec.{ltb}
-use lib.ListN.{length, take, getD}
+use borrow.Author.Tests.{ltb-true, ltb-false, eqb-true, eqb-false}
+use lib.Dec.{eqb, ltb}
+use lib.ListN.{length, take, drop, getD, set, length-set, length-drop}
+use lib.Seq.{getD-set-same, getD-set-other, length-take-le}
 use Rattle.transducer.specs.declared.StateSet.{StateSet}
-use Rattle.product.specs.Numbers.{mostPairs, noStep}
-use Rattle.product.specs.Steps.{Steps, targetOf, First}
+use Rattle.product.specs.Numbers.{mostPairs, noStep, labelOf, Label}
+use Rattle.product.specs.Machine.{Machine}
+use Rattle.product.specs.Steps.{pastLast, Steps, targetOf}
+use Rattle.product.proofs.StepLaws.{Past, step-label, past-last-row}
 use Rattle.delays.specs.Outputs.{Appends}
-use Rattle.delays.specs.Needs.{mostWord, needsOf, Equation, StepHolds, Passes, FrontsKept}
-use Rattle.delays.proofs.NeedLaws.{needs-few, none-needed}
-use Rattle.equations.specs.Tests.{fine, uneven, Measured, StepsPass, Failing, Tried, Testing, Uneven, PairPasses, PairTried, AllTried}
+use Rattle.delays.specs.WaysOut.{level, Placed}
+use Rattle.delays.specs.Needs.{mostWord, lackOf, needsOf, WayHeld, Equation, StepHolds, SameStep, Passes, FrontsKept}
+use Rattle.delays.proofs.NeedLaws.{needs-few, none-needed, equation-again}
+use Rattle.equations.specs.Tests.{fine, uneven, Measured, Places, StepsPass, Failing, Tried, Seen, NextHeld, NeedsHeld, Testing, Uneven, PairPasses, Answer, PairTried, Flagged, WayTried}
 use Rattle.equations.specs.declared.Failure.{Failure}
+use Rattle.equations.specs.declared.steps.OnWay.{OnWay}
 
 -- ---- the steps from a pair
 
 module _ {m gap : List ℕ} {P : ℕ → ℕ → Type 0} {i : ℕ} where
-  -- below the first step there is none
-  pub pass-first : {r : ℕ} → First m m i 0 noStep r → StepsPass m gap P i r
-  pass-first f = record { pass = λ label j h s e n. absurd (f .least label (omega arith) (omega (arith, f .most)) h s) }
+  pub pass-none : StepsPass m gap P i 0
+  pass-none = record { pass = λ label j h s e n. absurd (omega arith) }
 
-  -- a step that passes, and none up to the next
-  pub pass-next : {k r : ℕ} → StepsPass m gap P i k → (getD gap (targetOf m m i k) 0 ≢ 0 → P k (targetOf m m i k)) → First m m i (k + 1) noStep r
-      → StepsPass m gap P i r
-  pass-next {k} {r} p q f = record { pass = λ label j h s e n. go label j h s e n (ltb label k) (ltb k label) refl refl }
+  -- up to `high` there is no step more
+  pub pass-past : {low high : ℕ} → StepsPass m gap P i low → Past m m i low high → StepsPass m gap P i high
+  pass-past {low} {high} p q = record { pass = λ label j h s e n. go label j h s e n (ltb label low) refl }
     where
-      go : (label j : ℕ) → label < r → Steps m m i label → targetOf m m i label ≡ j → getD gap j 0 ≢ 0
-          → (a b : Bool) → ltb label k ≡ a → ltb k label ≡ b → P label j
-      go label j h s e n true b c d = p .pass label j (ltb-true label k c) s e n
-      go label j h s e n false true c d =
-          absurd (f .least label (omega (arith, ltb-true k label d)) (omega (arith, f .most)) h s)
-      go label j h s e n false false c d =
-          let is : k ≡ label = omega (arith, ltb-false label k c, ltb-false k label d) in
+      go : (label j : ℕ) → label < high → Steps m m i label → targetOf m m i label ≡ j → getD gap j 0 ≢ 0 → (b : Bool) → ltb label low ≡ b → P label j
+      go label j h s e n true c = p .pass label j (ltb-true label low c) s e n
+      go label j h s e n false c = absurd (q .none label (omega (arith, ltb-false label low c)) h s)
+
+  -- one step more
+  pub pass-one : {k : ℕ} → StepsPass m gap P i k → (getD gap (targetOf m m i k) 0 ≢ 0 → P k (targetOf m m i k)) → StepsPass m gap P i (k + 1)
+  pass-one {k} p q = record { pass = λ label j h s e n. go label j h s e n (ltb label k) refl }
+    where
+      go : (label j : ℕ) → label < k + 1 → Steps m m i label → targetOf m m i label ≡ j → getD gap j 0 ≢ 0 → (b : Bool) → ltb label k ≡ b → P label j
+      go label j h s e n true c = p .pass label j (ltb-true label k c) s e n
+      go label j h s e n false c =
+          let is : k ≡ label = omega (arith, ltb-false label k c) in
           let t : targetOf m m i k ≡ j = ap (targetOf m m i) is ∙ e in
           subst (λ l. P l j) is (subst (P k) t (q (λ z. n (ap (λ v. getD gap v 0) (sym t) ∙ z))))
 
   -- no step failed
-  pub tried-all : {k : ℕ} → StepsPass m gap P i k → noStep ≤ k → Tried m gap P i fine 0
-  tried-all s h = record { passed = λ _. record { pass = λ label j b. s .pass label j (omega arith) }; failing = λ n. absurd (n refl); low = omega arith }
+  pub tried-all : {row : ℕ} → Machine m → StepsPass m gap P i (labelOf row 0) → pastLast ≤ row → Tried m gap P i fine 0
+  tried-all machine p h =
+      record {
+        passed = λ _. record { pass = λ label j _ s. p .pass label j (past-last-row machine machine h s) s };
+        failing = λ n. absurd (n refl);
+        low = omega arith;
+      }
 
   -- a step fails
-  pub tried-one : {k j : ℕ} → k < noStep → Failing m gap P i k j → Tried m gap P i k j
-  tried-one h f = record { passed = λ e. absurd (omega arith); failing = λ _. f; low = omega arith }
+  pub tried-one : {k j : ℕ} → Machine m → Failing m gap P i k j → Tried m gap P i k j
+  tried-one machine f =
+      let l = step-label machine machine (f .step) in
+      record { passed = λ e. absurd (omega (arith, l .0)); failing = λ _. f; low = omega (arith, l .0) }
 
 -- ---- the buffers
 
--- what each side needs at i is written
-pub testing-starts : {m written out out-step gap x₀ x : List ℕ} {a : ℕ} {y₀ y : List ℕ} {b i : ℕ}
-    → Measured m written out out-step gap → i < mostPairs → getD gap i 0 ≢ 0 → length x ≡ mostWord → length y ≡ mostWord
-    → Appends x₀ 0 (needsOf written out out-step true i) x a → Appends y₀ 0 (needsOf written out out-step false i) y b
-    → Testing m written out out-step gap x a y b i
-testing-starts {i = i} m low n long long′ p q =
-    let way = m .grounds .ways i low n in
+-- what each side needs at i is copied
+pub testing-starts : {m written out out-step gap left right x₀ x : List ℕ} {a : ℕ} {y₀ y : List ℕ} {b n n′ : ℕ} {p : OnWay}
+    → Measured m written out out-step gap → p .pair < mostPairs → getD gap (p .pair) 0 ≢ 0
+    → NeedsHeld written out out-step left right (getD gap (p .pair) 0) p
+    → length x ≡ mostWord → length y ≡ mostWord → n ≡ lackOf true (getD gap (p .pair) 0) → n′ ≡ lackOf false (getD gap (p .pair) 0)
+    → Appends x₀ 0 (take n (drop (p .right) right)) x a → Appends y₀ 0 (take n′ (drop (p .left) left)) y b
+    → Testing m written out out-step gap x a y b (p .pair)
+testing-starts {written = written} {out} {out-step} {gap} {left} {right} {p = p} s low marked held long long′ e e′ c d =
+    let way = s .grounds .ways (p .pair) low marked in
+    let g = getD gap (p .pair) 0 in
+    let c-is = c .front ∙ ap (λ k. take k (drop (p .right) right)) e ∙ held .right-needs in
+    let d-is = d .front ∙ ap (λ k. take k (drop (p .left) left)) e′ ∙ held .left-needs in
+    let c-size = length-take-le (lackOf true g) (drop (p .right) right) (omega (arith, length-drop (p .right) right, held .within-right)) in
+    let d-size = length-take-le (lackOf false g) (drop (p .left) left) (omega (arith, length-drop (p .left) left, held .within-left)) in
+    let a-is = c .place ∙ ap (λ k. 0 + length (take k (drop (p .right) right))) e in
+    let b-is = d .place ∙ ap (λ k. 0 + length (take k (drop (p .left) left))) e′ in
     record {
-      measured = m;
+      measured = s;
       inside = low;
       fronts =
           record {
             long-x = long;
             long-y = long′;
-            few-x = omega (arith, p .place, needs-few (m .grounds .lists) true way);
-            few-y = omega (arith, q .place, needs-few (m .grounds .lists) false way);
+            is-x = omega (arith, a-is, c-size);
+            is-y = omega (arith, b-is, d-size);
+            few-x = omega (arith, a-is, ap length (held .right-needs), needs-few (s .grounds .lists) true way);
+            few-y = omega (arith, b-is, ap length (held .left-needs), needs-few (s .grounds .lists) false way);
           };
-      x-needs = p .front;
-      y-needs = q .front;
+      x-needs = c-is;
+      y-needs = d-is;
     }
 
 -- ---- one step
@@ -81,7 +107,15 @@ module _ {m written out out-step gap x : List ℕ} {a : ℕ} {y : List ℕ} {b i
       record {
         measured = s .measured;
         inside = s .inside;
-        fronts = record { long-x = e ∙ s .fronts .long-x; long-y = e′ ∙ s .fronts .long-y; few-x = s .fronts .few-x; few-y = s .fronts .few-y };
+        fronts =
+            record {
+              long-x = e ∙ s .fronts .long-x;
+              long-y = e′ ∙ s .fronts .long-y;
+              is-x = s .fronts .is-x;
+              is-y = s .fronts .is-y;
+              few-x = s .fronts .few-x;
+              few-y = s .fronts .few-y;
+            };
         x-needs = k .front-x ∙ s .x-needs;
         y-needs = k .front-y ∙ s .y-needs;
       }
@@ -93,10 +127,14 @@ module _ {m written out out-step gap x : List ℕ} {a : ℕ} {y : List ℕ} {b i
   equation-for : (k j : ℕ) → StepHolds written out out-step i k j → Equation written out out-step (take a x) (take b y) k j
   equation-for k j e = rw (s .x-needs, s .y-needs) e
 
+  -- what was seen of the last step
+  pub seen-for : {k j : ℕ} → Seen gap (StepHolds written out out-step i) k j → Seen gap (Equation written out out-step (take a x) (take b y)) k j
+  seen-for {k} {j} z = record { low = z .low; holds = λ h n. equation-for k j (z .holds h n) }
+
   -- a step that passes, and one that does not
-  pub step-holds : (k j : ℕ) {r : Bool} → j ≡ targetOf m m i k → Passes written out out-step gap (take a x) (take b y) k j r → r ≡ true
-      → getD gap (targetOf m m i k) 0 ≢ 0 → StepHolds written out out-step i k (targetOf m m i k)
-  step-holds k j q p e n = rw q at (equation-of k j (p .good e (rw q n)))
+  pub step-holds : (k j : ℕ) {r : Bool} → Passes written out out-step gap (take a x) (take b y) k j r → r ≡ true
+      → getD gap j 0 ≢ 0 → StepHolds written out out-step i k j
+  step-holds k j p e n = equation-of k j (p .good e n)
 
   pub step-fails : (k j : ℕ) {r : Bool} → Steps m m i k → j ≡ targetOf m m i k → Passes written out out-step gap (take a x) (take b y) k j r → r ≡ false
       → Failing m gap (StepHolds written out out-step i) i k j
@@ -104,17 +142,67 @@ module _ {m written out out-step gap x : List ℕ} {a : ℕ} {y : List ℕ} {b i
       let n = p .bad e in
       record { step = z; target = sym q; marked = n .0; fails = λ h. n .1 (equation-for k j h) }
 
--- ---- one pair, and all
+-- a step that leads where the last one led, and writes the same
+pub seen-again : {written out out-step gap x y : List ℕ} {label last j to : ℕ} → Seen gap (Equation written out out-step x y) last to → j ≡ to → j < mostPairs
+    → SameStep written label last → Passes written out out-step gap x y label j true
+seen-again {written} {out} {out-step} {gap} {x} {y} {j = j} s e h z =
+    record {
+      good = λ _ n.
+          equation-again written out out-step x y j (record { lefts = sym (z .lefts); rights = sym (z .rights) })
+          (rw e (s .holds (rw e at h) (rw e at n)));
+      bad = λ q. absurd (false≢true (sym q));
+    }
 
--- the pairs that were tried pass
-abbrev pub Past : StateSet → (m written out out-step gap : List ℕ) → ℕ → Type 0
-Past starts m written out out-step gap bound = (i : ℕ) → i < bound → getD gap i 0 ≢ 0 → PairPasses starts m written out out-step gap i
+-- the words of the next pair on the way out
+pub next-held : {written out out-step left right : List ℕ} {j : ℕ} (p : OnWay) → NextHeld written out out-step left right p → j < mostPairs → eqb j (p .pair) ≡ true
+    → WayHeld written out out-step j left (p .left) right (p .right)
+next-held {j = j} p held h e = let q : j ≡ p .pair = eqb-true j (p .pair) e in rw q (held (rw q at h))
+
+-- the steps from i with labels below `high` have passed, the last of them to the pair `to`
+pub record Going (m written out out-step gap x : List ℕ) (a : ℕ) (y : List ℕ) (b i last to high : ℕ) : Type 0 where
+  pub testing : Testing m written out out-step gap x a y b i
+  pub seen : Seen gap (StepHolds written out out-step i) last to
+  pub passed : StepsPass m gap (StepHolds written out out-step i) i high
+
+module _ {m written out out-step gap x : List ℕ} {a : ℕ} {y : List ℕ} {b i last to : ℕ} where
+  pub going-none : Testing m written out out-step gap x a y b i → mostPairs ≤ to → Going m written out out-step gap x a y b i last to 0
+  going-none s h =
+      record { testing = s; seen = record { low = λ l. absurd (omega arith); holds = λ l. absurd (omega arith) }; passed = pass-none }
+
+  pub going-past : {low high : ℕ} → Going m written out out-step gap x a y b i last to low → Past m m i low high
+      → Going m written out out-step gap x a y b i last to high
+  going-past g p = record { testing = g .testing; seen = g .seen; passed = pass-past (g .passed) p }
+
+  -- one step more passes
+  pub going-step : {k label j : ℕ} {r : Bool} {x′ y′ : List ℕ} → Going m written out out-step gap x a y b i last to k → Steps m m i k → label ≡ k
+      → j ≡ targetOf m m i k → Passes written out out-step gap (take a x) (take b y) label j r → r ≡ true
+      → length x′ ≡ length x → length y′ ≡ length y → FrontsKept x a y b x′ y′
+      → Going m written out out-step gap x′ a y′ b i label j (k + 1)
+  going-step {k} {label} {j} g z e t p q lx ly f =
+      let s = g .testing in
+      let holds = step-holds s label j p q in
+      let l : Label label = rw e (step-label (s .measured .machine) (s .measured .machine) z) in
+      record {
+        testing = testing-still s lx ly f;
+        seen = record { low = λ _. l; holds = λ _. holds };
+        passed = pass-one (g .passed) (rw (e, t) at holds);
+      }
+
+  -- one step fails
+  pub going-fails : {k label j : ℕ} {r : Bool} → Going m written out out-step gap x a y b i last to k → Steps m m i k → label ≡ k
+      → j ≡ targetOf m m i k → Passes written out out-step gap (take a x) (take b y) label j r → r ≡ false
+      → Tried m gap (StepHolds written out out-step i) i label j
+  going-fails {k} {label} {j} g z e t p q =
+      let s = g .testing in
+      rw e (tried-one (s .measured .machine) (step-fails s k j z t (rw e at p) q))
+
+-- ---- the pairs
+
+-- the pairs at the places from h on pass
+abbrev pub Behind : StateSet → (m written out out-step gap order : List ℕ) → ℕ → ℕ → Type 0
+Behind starts m written out out-step gap order n h = (k : ℕ) → h ≤ k → k < n → PairPasses starts m written out out-step gap (getD order k 0)
 
 module _ {starts : StateSet} {m written out out-step gap : List ℕ} where
-  -- a pair that does not count
-  pub pair-none : {i : ℕ} → getD gap i 0 ≡ 0 → PairTried starts m written out out-step gap i (record { from = i; label = fine; to = 0 })
-  pair-none e = record { passed = λ _ n. absurd (n e); failing = λ n. absurd (n refl) }
-
   -- an uneven pair of start states
   pub pair-uneven : {i : ℕ} {r : Bool} → i < mostPairs → getD gap i 0 ≢ 0 → Uneven starts (getD gap i 0) i r → r ≡ true
       → PairTried starts m written out out-step gap i (record { from = i; label = uneven; to = 0 })
@@ -130,7 +218,7 @@ module _ {starts : StateSet} {m written out out-step gap : List ℕ} where
       → Tried m gap (StepHolds written out out-step i) i (f .label) (f .to) → PairTried starts m written out out-step gap i f
   pair-steps {i} f s h n u e q t =
       record {
-        passed = λ z _.
+        passed = λ z.
             record {
               start = λ p.
                   let g = s .grounds .gaps i h n in
@@ -143,18 +231,39 @@ module _ {starts : StateSet} {m written out out-step gap : List ℕ} where
             (record { inside = h; marked = n; start = λ w. absurd (omega (arith, t .low)); step = λ _. t .failing z });
       }
 
-  -- one pair more passes
-  pub past-one : {r : Failure} (i : ℕ) → Past starts m written out out-step gap i → PairTried starts m written out out-step gap i r → r .label ≡ fine
-      → Past starts m written out out-step gap (i + 1)
-  past-one i p t e v h n = go (ltb v i) refl
+  -- one pair more has a flag
+  pub flagged-one : {tested : List Bool} {i : ℕ} → Flagged starts m written out out-step gap tested → i < mostPairs → PairPasses starts m written out out-step gap i
+      → Flagged starts m written out out-step gap (set tested i true)
+  flagged-one {tested} {i} f h p = record { long = length-set tested i true ∙ f .long; pass = λ v. go v (eqb v i) refl }
     where
-      go : (b : Bool) → ltb v i ≡ b → PairPasses starts m written out out-step gap v
-      go true d = p v (ltb-true v i d) n
-      go false d = let q : v ≡ i = omega (arith, ltb-false v i d) in rw q (t .passed e (rw q at n))
+      go : (v : ℕ) (b : Bool) → eqb v i ≡ b → getD (set tested i true) v false ≡ true → PairPasses starts m written out out-step gap v
+      go v true e z = let q : v ≡ i = eqb-true v i e in rw q p
+      go v false e z = f .pass v (sym (getD-set-other tested i v true false (eqb-false v i e)) ∙ z)
 
-  pub all-past : (bound : ℕ) → Past starts m written out out-step gap bound → mostPairs ≤ bound → AllTried starts m written out out-step gap mostPairs (record { from = 0; label = fine; to = 0 })
-  all-past bound p h = record { passed = λ _ i b. p i (omega arith); failing = λ n. absurd (n refl) }
+  -- no pair is flagged at first
+  pub flagged-none : {tested : List Bool} → length tested ≡ mostPairs → ((i : ℕ) → getD tested i false ≡ false) → Flagged starts m written out out-step gap tested
+  flagged-none l z = record { long = l; pass = λ i e. absurd (false≢true (sym (z i) ∙ e)) }
 
-  pub all-broken : {i : ℕ} {r : Failure} → PairTried starts m written out out-step gap i r → r .label ≢ fine
-      → AllTried starts m written out out-step gap mostPairs r
-  all-broken t n = record { passed = λ e. absurd (n e); failing = t .failing }
+  -- a test fails
+  pub broken : {Pass Pass′ : Type 0} {r : Failure} → Answer starts m written out out-step gap Pass r → r .label ≢ fine → Answer starts m written out out-step gap Pass′ r
+  broken t n = record { passed = λ e. absurd (n e); failing = t .failing }
+
+  -- none does
+  pub passes : {Pass : Type 0} {v : ℕ} → Pass → Answer starts m written out out-step gap Pass (record { from = v; label = fine; to = 0 })
+  passes p = record { passed = λ _. p; failing = λ n. absurd (n refl) }
+
+  -- the answer of a test at a pair, where it gets no flag
+  pub alone : {i : ℕ} {tested : List Bool} {r : Failure} → Flagged starts m written out out-step gap tested → PairTried starts m written out out-step gap i r
+      → WayTried starts m written out out-step gap i tested r
+  alone f t = record { passed = λ e. (t .passed e, f); failing = t .failing }
+
+  pub behind-one : (order : List ℕ) {n h : ℕ} → Behind starts m written out out-step gap order n (h + 1) → PairPasses starts m written out out-step gap (getD order h 0) → Behind starts m written out out-step gap order n h
+  behind-one order {n} {h} p q k a b = go (ltb h k) refl
+    where
+      go : (c : Bool) → ltb h k ≡ c → PairPasses starts m written out out-step gap (getD order k 0)
+      go true e = p k (omega (arith, ltb-true h k e)) b
+      go false e = let z : h ≡ k = omega (arith, ltb-false h k e) in rw z at q
+
+  -- all pass
+  pub all-pass : {order : List ℕ} {n : ℕ} → Places order n gap → Behind starts m written out out-step gap order n 0 → (i : ℕ) → getD gap i 0 ≢ 0 → PairPasses starts m written out out-step gap i
+  all-pass s p i h = let z = s .all i h in rw (z .is) at (p (z .place) (omega arith) (z .low))

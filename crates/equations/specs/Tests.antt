@@ -5,25 +5,26 @@ use mathlib.Core.Bool.{Bool, true, false}
 use mathlib.Core.List.{List, [], _∷_, _++_}
 use mathlib.Core.Logic.{_≢_}
 use Prim.Native.Nat.{ℕ, _+_, _*_, _-_, _≤_, _<_}
-use lib.ListN.{length, take, getD}
+use lib.ListN.{length, take, drop, getD}
 use Rattle.transducer.specs.Valid.{validOf}
 use Rattle.transducer.specs.Paths.{Functional}
 use Rattle.transducer.specs.Walks.{Step}
 use Rattle.transducer.specs.declared.StateSet.{StateSet}
 use Rattle.transducer.specs.declared.Transducer.{Transducer}
-use Rattle.product.specs.Numbers.{mostPairs, noStep, stepOf, PairIn, Moves}
+use Rattle.product.specs.Numbers.{mostPairs, noStep, Label, stepOf, PairIn, Moves}
 use Rattle.product.specs.Machine.{Machine}
 use Rattle.product.specs.Steps.{Steps, targetOf}
-use Rattle.pairs.specs.Ways.{Useful, WaysOut}
+use Rattle.pairs.specs.Ways.{Useful, WaysOut, Discovered}
 use Rattle.pairs.specs.declared.UsefulPairs.{UsefulPairs}
 use Rattle.witness.specs.Walk.{walkOf, Same, Whole}
-use Rattle.delays.specs.WaysOut.{level, Grounds}
-use Rattle.delays.specs.Needs.{needsOf, StepHolds, Fronts}
+use Rattle.delays.specs.WaysOut.{level, Placed, Grounds}
+use Rattle.delays.specs.Needs.{mostWord, lackOf, needsOf, WayHeld, StepHolds, Fronts}
 use Rattle.equations.specs.Links.{Follows, wayOut, part}
 use Rattle.equations.specs.declared.Failure.{Failure}
+use Rattle.equations.specs.declared.steps.OnWay.{OnWay}
 use Rattle.equations.specs.declared.way.Place.{Place}
 
--- no label: there are 257 × 257
+-- no label
 abbrev pub fine : ℕ
 fine = noStep
 
@@ -56,12 +57,37 @@ pub record Tested (t : Transducer) (out out-step : List ℕ) (r : Failure) : Typ
   pub passed : r .label ≡ fine → Functional t
   pub failing : r .label ≢ fine → Differing t out out-step r
 
--- ---- the test at a pair
+-- what the tests are told of the useful pairs: how many there are, the ways out of them, and the order in which they were found
+pub record Listed (t : Transducer) (u : ℕ) (out out-step order : List ℕ) : Type 0 where
+  pub found : UsefulPairs
+  pub standing : Standing t found out out-step
+  pub is : found .count ≡ u
+  pub discovered : Discovered t out order u
 
--- what the tests rely on: the machine, and the gaps of the pairs that count, 0 for the others
+-- ---- what the tests rely on
+
+-- the machine, and the gaps of the pairs that count, 0 for the others; a pair that counts has a way out by pairs that count
 pub record Measured (m written out out-step gap : List ℕ) : Type 0 where
   pub machine : Machine m
   pub grounds : Grounds written out out-step gap
+  pub onward : (v : ℕ) → getD gap v 0 ≢ 0 → getD out v 0 ≢ 0 → getD gap (getD out v 0 - 1) 0 ≢ 0
+
+-- the first n places of the order have the pairs that count
+pub record Places (order : List ℕ) (n : ℕ) (gap : List ℕ) : Type 0 where
+  pub long : length order ≡ mostPairs
+  pub few : n ≤ mostPairs
+  pub low : (h : ℕ) → h < n → getD order h 0 < mostPairs
+  pub counts : (h : ℕ) → h < n → getD gap (getD order h 0) 0 ≢ 0
+  pub all : (v : ℕ) → getD gap v 0 ≢ 0 → Placed order n v
+
+-- the four lists for words have their lengths
+pub record Buffers (left right x y : List ℕ) : Type 0 where
+  pub long-left : length left ≡ mostWord
+  pub long-right : length right ≡ mostWord
+  pub long-x : length x ≡ mostWord
+  pub long-y : length y ≡ mostWord
+
+-- ---- the tests at the steps from a pair
 
 module _ (m gap : List ℕ) (P : ℕ → ℕ → Type 0) where
   -- P holds of the steps from i to pairs that count, with labels below `high`
@@ -81,13 +107,32 @@ module _ (m gap : List ℕ) (P : ℕ → ℕ → Type 0) where
     pub failing : label ≢ fine → Failing i label j
     pub low : label ≤ fine
 
+-- P holds of the step with a label to j, if j is a pair that counts
+pub record Seen (gap : List ℕ) (P : ℕ → ℕ → Type 0) (label j : ℕ) : Type 0 where
+  pub low : j < mostPairs → Label label
+  pub holds : j < mostPairs → getD gap j 0 ≢ 0 → P label j
+
+-- if p is a pair, two lists hold what the two sides of the way out of it write, from the places of p on
+abbrev pub NextHeld : (written out out-step left right : List ℕ) → OnWay → Type 0
+NextHeld written out out-step left right p =
+    p .pair < mostPairs → WayHeld written out out-step (p .pair) left (p .left) right (p .right)
+
+-- two lists hold what the two sides need at the pair p, with the gap g, from the places of p on
+pub record NeedsHeld (written out out-step left right : List ℕ) (g : ℕ) (p : OnWay) : Type 0 where
+  pub within-left : p .left + lackOf false g ≤ length left
+  pub within-right : p .right + lackOf true g ≤ length right
+  pub left-needs : take (lackOf false g) (drop (p .left) left) ≡ needsOf written out out-step false (p .pair)
+  pub right-needs : take (lackOf true g) (drop (p .right) right) ≡ needsOf written out out-step true (p .pair)
+
 -- what the tests at the steps from i rely on: the two buffers have what each side needs at i
 pub record Testing (m written out out-step gap x : List ℕ) (a : ℕ) (y : List ℕ) (b i : ℕ) : Type 0 where
   pub measured : Measured m written out out-step gap
   pub inside : i < mostPairs
-  pub fronts : Fronts x a y b
+  pub fronts : Fronts (getD gap i 0) x a y b
   pub x-needs : take a x ≡ needsOf written out out-step true i
   pub y-needs : take b y ≡ needsOf written out out-step false i
+
+-- ---- the tests at the pairs
 
 -- the gap g of a pair v of start states is not that of two sides that write equally much
 pub record Uneven (starts : StateSet) (g v : ℕ) (r : Bool) : Type 0 where
@@ -108,15 +153,26 @@ module _ (starts : StateSet) (m written out out-step gap : List ℕ) where
     pub start : label ≡ uneven → PairIn starts starts i × (getD gap i 0 ≢ level)
     pub step : label ≢ uneven → Failing m gap (StepHolds written out out-step i) i label j
 
-  -- the answer of the tests at the pairs below `bound`: all pass, or one fails
-  pub record AllTried (bound : ℕ) (r : Failure) : Type 0 where
-    pub passed : r .label ≡ fine → (i : ℕ) → i < bound → getD gap i 0 ≢ 0 → PairPasses i
+  -- the answer of the tests at some pairs: all of them pass, or one fails
+  pub record Answer (Pass : Type 0) (r : Failure) : Type 0 where
+    pub passed : r .label ≡ fine → Pass
     pub failing : r .label ≢ fine → Broken (r .from) (r .label) (r .to)
 
-  -- the same of one pair
-  pub record PairTried (i : ℕ) (r : Failure) : Type 0 where
-    pub passed : r .label ≡ fine → getD gap i 0 ≢ 0 → PairPasses i
-    pub failing : r .label ≢ fine → Broken (r .from) (r .label) (r .to)
+  -- the answer of the tests at one pair, and at all that count
+  abbrev pub PairTried : ℕ → Failure → Type 0
+  PairTried i r = Answer (PairPasses i) r
+
+  abbrev pub AllTried : Failure → Type 0
+  AllTried r = Answer ((i : ℕ) → getD gap i 0 ≢ 0 → PairPasses i) r
+
+  -- the pairs that have a flag pass
+  pub record Flagged (tested : List Bool) : Type 0 where
+    pub long : length tested ≡ mostPairs
+    pub pass : (i : ℕ) → getD tested i false ≡ true → PairPasses i
+
+  -- the answer of the tests at the pair i and at others, which get their flags
+  abbrev pub WayTried : ℕ → List Bool → Failure → Type 0
+  WayTried i tested r = Answer (PairPasses i × Flagged tested) r
 
 -- ---- the walk that is found
 

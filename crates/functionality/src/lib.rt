@@ -119,7 +119,7 @@ fn examine(
     let mut out_step = [0u32; PAIRS];
     let mut order = [0u32; PAIRS];
     let found = pairs::ways_out(t, &m, &mut out, &mut out_step, &mut order);
-    let failure = equations::search(t, &m, found, &out, &out_step);
+    let failure = equations::search(t, &m, &out, &out_step, &order, found.count);
     if failure.label == FINE {
         return quiet(Outcome::Functional, found.count);
     }

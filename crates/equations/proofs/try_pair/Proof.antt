@@ -1,27 +1,66 @@
 -- `try_pair` meets its contract. Assumes nothing.
+use mathlib.Core.Path.{_∙_}
 use native.Mathlib.Omega.{arith}
 use borrow.Author.Needs.{needs}
-use Rattle.equations.proofs.TriedLaws.{pair-none, pair-uneven, pair-steps}
+use Rattle.equations.proofs.TriedLaws.{testing-starts, pair-uneven, pair-steps}
 use Rattle.equations.proofs.try_pair.Statement.{statement}
 use Rattle.equations.proofs.try_pair.Tie as tie
 
+-- ---- places: the test of start states, the copies, the tests at the steps
+
+abbrev start : tie.After-uneven-start → tie.Start
+start c = c .before .before .before .before .before .before .before .before .before .before .before
+
+abbrev uneven : tie.After-lack → tie.After-uneven-start
+uneven c = c .before .before
+
+abbrev first : tie.After-copy → tie.After-lack
+first c = c .before .before
+
+abbrev second : tie.After-copy2 → tie.After-lack2
+second c = c .before .before
+
+abbrev between : tie.After-lack2 → tie.After-copy
+between c = c .before .before .before
+
+abbrev tried : tie.After-slice-known6 → tie.After-all
+tried c = c .before .before .before .before
+
+-- ---- needs
+
 mul-g : tie.Need-mul-g
-mul-g c = omega (arith, c .before .before .before .before .before .before .before .pre .1 .0)
+mul-g c = search needs
 
 shared-slice-read-g : tie.Need-shared-slice-read-g
-shared-slice-read-g c = omega (arith, c .before .before .before .before .before .before .before .before .pre .1 .0, c .before .before .before .before .before .before .before .before .pre .0 .grounds .long-gap)
-
-returns : tie.Need-returns
-returns c = pair-none (c .if1 .taken)
+shared-slice-read-g c = search needs
 
 uneven-start-requires : tie.Need-uneven-start-requires
 uneven-start-requires c κs = search needs
 
-returns-2 : tie.Need-returns-2
-returns-2 c = pair-uneven (c .before .before .before .before .before .before .before .before .before .before .before .pre .1 .0) (c .before .before .if1 .left) (c .before .uneven-start .ensures) (c .if2 .taken)
+returns : tie.Need-returns
+returns c = let p = start (c .before) .pre .1 .0 in pair-uneven (p .0) (p .1) (c .before .uneven-start .ensures) (c .if1 .taken)
 
-failing-step-requires : tie.Need-failing-step-requires
-failing-step-requires c κs = let a = c .before .before .before .before .before .before .before .before .before .before .before .before .before in (a .pre .0, ((a .pre .1 .0, c .before .before .before .before .if1 .left), a .pre .1 .1))
+lack-requires : tie.Need-lack-requires
+lack-requires c κs = search needs
+
+copy-requires : tie.Need-copy-requires
+copy-requires c κs = search needs
+
+lack-requires-2 : tie.Need-lack-requires-2
+lack-requires-2 c κs = search needs
+
+copy-requires-2 : tie.Need-copy-requires-2
+copy-requires-2 c κs = search needs
+
+all-requires : tie.Need-all-requires
+all-requires c κs =
+    let q = c .before .before .before .before in
+    let p = between (second q) in
+    let a = start (uneven (first p)) .pre in (
+      testing-starts (a .0) (a .1 .0 .0) (a .1 .0 .1) (a .1 .1 .0) (p .copy .kept .1 .1 .1 .0 ∙ a .1 .1 .1 .1 .long-x) (q .copy2 .kept .1 .1 .1 .0 ∙ a .1 .1 .1 .1 .long-y)
+          (first p .lack .ensures) (second q .lack2 .ensures) (p .copy .ensures) (q .copy2 .ensures),
+      a .1 .1 .1 .0,
+    )
 
 same-length : tie.Need-same-length
 same-length c = search needs
@@ -29,11 +68,12 @@ same-length c = search needs
 same-length-2 : tie.Need-same-length-2
 same-length-2 c = search needs
 
-returns-3 : tie.Need-returns-3
-returns-3 c =
-    let a = c .before .before .before .before .before .before .before .before .before .before .before .before .before .before .before .before .before .before in
-    let f = c .before .before .before .before .failing-step in
-    pair-steps (f .result) (a .pre .0) (a .pre .1 .0) (c .before .before .before .before .before .before .before .before .before .if1 .left) (c .before .before .before .before .before .before .before .before .uneven-start .ensures) (c .before .before .before .before .before .before .before .if2 .left) (f .ensures .1) (f .ensures .0)
+returns-2 : tie.Need-returns-2
+returns-2 c =
+    let f = tried c .all in
+    let u = uneven (first (between (second (tried c .before .before .before .before .before)))) in
+    let a = start u .pre in
+    pair-steps (f .result) (a .0) (a .1 .0 .0) (a .1 .0 .1) (u .uneven-start .ensures) (first (between (second (tried c .before .before .before .before .before))) .before .if1 .left) (f .ensures .1) (f .ensures .0)
 
 pub try-pair-spec : {M : Type 1} → statement M
 try-pair-spec =
@@ -41,10 +81,13 @@ try-pair-spec =
     (tie.spec
     mul-g
     shared-slice-read-g
-    returns
     uneven-start-requires
-    returns-2
-    failing-step-requires
+    returns
+    lack-requires
+    copy-requires
+    lack-requires-2
+    copy-requires-2
+    all-requires
     same-length
     same-length-2
-    returns-3)
+    returns-2)

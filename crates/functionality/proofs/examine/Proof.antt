@@ -14,8 +14,8 @@ start c = c .before .before .before .before .before .before
 abbrev built : tie.After-order → tie.After-by-input
 built c = c .before .before .before .before .before
 
-abbrev led : tie.After-out-step3 → tie.After-ways-out
-led c = c .before .before .before .before .before .before
+abbrev led : tie.After-order3 → tie.After-ways-out
+led c = c .before .before .before .before .before .before .before
 
 abbrev single : tie.After-quiet → tie.After-search
 single c = c .before .before .before
@@ -55,11 +55,21 @@ slice-aggregate-search-2 c = search needs
 slice-aggregate-search-3 : tie.Need-slice-aggregate-search-3
 slice-aggregate-search-3 c = search needs
 
+slice-aggregate-search-4 : tie.Need-slice-aggregate-search-4
+slice-aggregate-search-4 c = search needs
+
 search-requires : tie.Need-search-requires
 search-requires c κs =
     let w = led c .ways-out in
-    let b = built (led c .before) in
-    (record { valid = start (b .before) .pre .0; ways = w .ensures .0; long-out = w .kept .1 .1 .0; long-out-step = w .kept .1 .1 .1 .0 }, b .by-input .ensures)
+    let b = built (led c .before) in (
+      record {
+        found = w .result;
+        standing = record { valid = start (b .before) .pre .0; ways = w .ensures .0; long-out = w .kept .1 .1 .0; long-out-step = w .kept .1 .1 .1 .0 };
+        is = refl;
+        discovered = w .ensures .1;
+      },
+      b .by-input .ensures,
+    )
 
 quiet-requires : tie.Need-quiet-requires
 quiet-requires c κs = search needs
@@ -123,6 +133,7 @@ examine-spec =
     slice-aggregate-search
     slice-aggregate-search-2
     slice-aggregate-search-3
+    slice-aggregate-search-4
     search-requires
     quiet-requires
     returns
