@@ -7,6 +7,8 @@ ghost use Rattle.equations.specs.Links.{linksOf, mostSteps, middle, Shor
 
 // The place of the step in the middle of a walk.
 pub const MIDDLE: usize = 1023;
+// The place behind it.
+const BEHIND: usize = MIDDLE + 1;
 
 // Where a walk stands in a list of labels: from the place `start` up to the place `end`.
 pub struct Place {
@@ -53,8 +55,8 @@ pub fn through(
 {
     let start = enter(into, into_step, i, steps);
     steps[MIDDLE] = label;
-    let end = leave(out, out_step, j, steps, MIDDLE + 1);
-    Place { start, end }
+    let past = leave(out, out_step, j, steps, BEHIND);
+    Place { start, end: past }
 }
 
 // Writes the labels of the way into the pair v, its last step just before the middle; the place of its first step.

@@ -8,8 +8,11 @@ use Rattle.equations.proofs.try_from.Tie as tie
 
 -- ---- places: v is level, or not
 
+abbrev entry : tie.After-slice-known6 → tie.Start
+entry c = c .before .before .before .before .before .before .before .before .before .before .before
+
 abbrev start : tie.Else1 → tie.Start
-start c = c .before .before .before .before .before .before .before .before .before .before .before .before
+start c = entry (c .before)
 
 abbrev alone-here : tie.After-try-pair-arg4 → tie.Else1
 alone-here c = c .before .before .before .before .before .before
@@ -27,7 +30,7 @@ slice-read-if1 c = search needs
 
 returns : tie.Need-returns
 returns c =
-    let a = c .before .before .before .before .before .before .before .before .before .before .before .before .pre in
+    let a = entry (c .before) .pre in
     let f = a .1 .1 .0 in
     passes (f .pass _ (c .if1 .taken), f)
 

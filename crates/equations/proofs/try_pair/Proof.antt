@@ -71,9 +71,10 @@ same-length-2 c = search needs
 returns-2 : tie.Need-returns-2
 returns-2 c =
     let f = tried c .all in
-    let u = uneven (first (between (second (tried c .before .before .before .before .before)))) in
+    let k = first (between (second (tried c .before .before .before .before .before))) in
+    let u = uneven k in
     let a = start u .pre in
-    pair-steps (f .result) (a .0) (a .1 .0 .0) (a .1 .0 .1) (u .uneven-start .ensures) (first (between (second (tried c .before .before .before .before .before))) .before .if1 .left) (f .ensures .1) (f .ensures .0)
+    pair-steps (f .result) (a .0) (a .1 .0 .0) (a .1 .0 .1) (u .uneven-start .ensures) (k .before .if1 .left) (f .ensures .1) (f .ensures .0)
 
 pub try-pair-spec : {M : Type 1} → statement M
 try-pair-spec =

@@ -17,8 +17,11 @@ abbrev μ-loop : tie.MeasureT-loop
 
 -- ---- places: the start, a turn of the loop, its tests
 
+abbrev entry : tie.After-slice-known5 Inv-loop μ-loop → tie.Start Inv-loop μ-loop
+entry c = c .before .before .before .before .before .before .before .before .before .before .before
+
 abbrev start : tie.At-loop Inv-loop μ-loop → tie.Start Inv-loop μ-loop
-start c = c .before .before .before .before .before .before .before .before .before .before .before .before
+start c = entry (c .before)
 
 abbrev turn : tie.After-try-from Inv-loop μ-loop → tie.In-loop Inv-loop μ-loop
 turn c = c .before .before .before .before .before .before .before
@@ -30,7 +33,7 @@ tried c = c .before .before .before .before .before .before .before .before .bef
 
 loop-holds : tie.Need-loop-holds Inv-loop μ-loop
 loop-holds c =
-    let a = c .before .before .before .before .before .before .before .before .before .before .before .pre in
+    let a = entry c .pre in
     ((λ k h l. absurd (omega arith)), a .1 .1 .0, a .1 .1 .1, omega arith)
 
 sub-h : tie.Need-sub-h Inv-loop μ-loop

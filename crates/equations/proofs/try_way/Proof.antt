@@ -28,8 +28,11 @@ abbrev μ-loop : tie.MeasureT-loop
 abbrev first-word : tie.After-whole2 Inv-loop μ-loop → tie.After-whole Inv-loop μ-loop
 first-word c = c .before .before .before .before
 
+abbrev entry : tie.After-whole-arg Inv-loop μ-loop → tie.Start Inv-loop μ-loop
+entry c = c .before .before .before .before .before .before .before .before .before .before .before
+
 abbrev start : tie.After-whole Inv-loop μ-loop → tie.Start Inv-loop μ-loop
-start c = c .before .before .before .before .before .before .before .before .before .before .before .before
+start c = entry (c .before)
 
 abbrev words : tie.At-loop Inv-loop μ-loop → tie.After-whole2 Inv-loop μ-loop
 words c = c .before .before .before
@@ -76,7 +79,7 @@ right-is c = c .count2 .ensures ∙ ap (countAt (begin (loop (turn c)) .args .wr
 
 whole-requires : tie.Need-whole-requires Inv-loop μ-loop
 whole-requires c κs =
-    let a = c .before .before .before .before .before .before .before .before .before .before .before .pre in
+    let a = entry c .pre in
     let v = a .1 .0 in
     (a .0 .grounds .lists, (a .0 .grounds .ways _ (v .0) (v .1), omega (arith, a .1 .1 .1 .long-left)))
 

@@ -29,8 +29,11 @@ abbrev μ-loop : tie.MeasureT-loop
 
 -- ---- places: the start, a row, a step of it, the test of the step
 
+abbrev entry : tie.After-slice-known2 Inv-loop2 μ-loop2 Inv-loop μ-loop → tie.Start Inv-loop2 μ-loop2 Inv-loop μ-loop
+entry c = c .before .before .before .before .before .before .before .before .before
+
 abbrev start : tie.At-loop Inv-loop2 μ-loop2 Inv-loop μ-loop → tie.Start Inv-loop2 μ-loop2 Inv-loop μ-loop
-start c = c .before .before .before .before .before .before .before .before .before .before .before .before
+start c = entry (c .before .before .before)
 
 abbrev row : tie.In-loop2 Inv-loop2 μ-loop2 Inv-loop μ-loop → tie.In-loop Inv-loop2 μ-loop2 Inv-loop μ-loop
 row c = c .before .before .before
@@ -54,24 +57,24 @@ taken c = c .before .loop2 .inv .1 (c .loop2-test .taken)
 -- ---- needs
 
 cast-pair : tie.Need-cast-pair Inv-loop2 μ-loop2 Inv-loop μ-loop
-cast-pair c = omega (arith, c .before .before .before .before .before .before .before .before .before .pre .0 .inside)
+cast-pair c = omega (arith, entry c .pre .0 .inside)
 
 mul-g : tie.Need-mul-g Inv-loop2 μ-loop2 Inv-loop μ-loop
-mul-g c = omega (arith, c .before .before .before .before .before .before .before .before .before .pre .0 .inside)
+mul-g c = omega (arith, entry c .pre .0 .inside)
 
 shared-slice-read-g : tie.Need-shared-slice-read-g Inv-loop2 μ-loop2 Inv-loop μ-loop
 shared-slice-read-g c =
-    let s = c .before .before .before .before .before .before .before .before .before .before .pre .0 in
+    let s = entry (c .before) .pre .0 in
     omega (arith, s .inside, s .measured .grounds .long-gap)
 
 first-row-requires : tie.Need-first-row-requires Inv-loop2 μ-loop2 Inv-loop μ-loop
 first-row-requires c κs =
-    let s = c .before .before .before .before .before .before .before .before .before .before .pre .0 in
+    let s = entry (c .before) .pre .0 in
     (s .measured .machine, s .inside)
 
 loop-holds : tie.Need-loop-holds Inv-loop2 μ-loop2 Inv-loop μ-loop
 loop-holds c =
-    let s = c .before .before .before .before .before .before .before .before .before .before .before .pre .0 in
+    let s = entry (c .before .before) .pre .0 in
     let m = s .measured .machine in
     let f = c .first-row .ensures in
     (f .most, f .has, going-past (going-none s (omega arith)) (past-first-row m m f))

@@ -26,9 +26,6 @@ enter-requires c κs = search needs
 slice-write-steps : tie.Need-slice-write-steps
 slice-write-steps c = search needs
 
-add-leave : tie.Need-add-leave
-add-leave c = search needs
-
 leave-requires : tie.Need-leave-requires
 leave-requires c κs =
     let a = start (entered c) .pre in
@@ -49,4 +46,4 @@ returns c =
 pub through-spec : {M : Type 1} → statement M
 through-spec =
     tie.close
-    (tie.spec enter-requires slice-write-steps add-leave leave-requires same-length returns)
+    (tie.spec enter-requires slice-write-steps leave-requires same-length returns)
