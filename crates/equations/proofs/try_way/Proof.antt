@@ -2,10 +2,11 @@
 -- pass, and v has one, or is i itself. Assumes nothing.
 use mathlib.Core.Path.{_≡_, refl, sym, ap, _∙_}
 use mathlib.Core.Bool.{true, false}
-use Prim.Native.Nat.{_+_, _-_, _≤_}
+use Prim.Native.Nat.{_+_, _-_, _≤_, _<_}
 use native.Mathlib.Omega.{arith}
 use borrow.Author.Needs.{needs}
 use lib.ListN.{length, getD}
+use Rattle.product.specs.Numbers.{mostPairs}
 use Rattle.witness.specs.Sides.{takenOf}
 use Rattle.delays.specs.Outputs.{countAt}
 use Rattle.delays.specs.WaysOut.{hopsOf}
@@ -59,6 +60,10 @@ ahead c =
     let l = loop c .loop in
     along-ahead (begin (loop c) .pre .0) (l .inv .0) (not-level (getD (begin (loop c) .args .gap .now) (l .i) 0) (getD (l .tested) (l .i) false) (c .if1 .taken))
 
+-- it and the pair of the turn are inside
+inside : (c : tie.Then1 Inv-loop μ-loop) → (loop c .loop .i < mostPairs) × (getD (begin (loop c) .args .out .now) (loop c .loop .i) 0 - 1 < mostPairs)
+inside c = (loop c .loop .inv .0 .led .inside, ahead c .led-next .inside)
+
 -- the two places are small
 low : (c : tie.At-loop Inv-loop μ-loop) → (c .loop .l ≤ mostWord) × (c .loop .r ≤ mostWord)
 low c =
@@ -107,19 +112,19 @@ slice-read-if1 : tie.Need-slice-read-if1 Inv-loop μ-loop
 slice-read-if1 c = let z = c .before .before .loop .inv .0 in omega (arith, z .led .inside, z .flags .long)
 
 mul-label : tie.Need-mul-label Inv-loop μ-loop
-mul-label c = omega (arith, loop c .loop .inv .0 .led .inside)
+mul-label c = omega (arith, inside c)
 
 shared-slice-read-label : tie.Need-shared-slice-read-label Inv-loop μ-loop
-shared-slice-read-label c = let l = loop (c .before) in omega (arith, l .loop .inv .0 .led .inside, begin l .pre .0 .grounds .lists .long-label)
+shared-slice-read-label c = omega (arith, inside (c .before), begin (loop (c .before)) .pre .0 .grounds .lists .long-label)
 
 mul-i : tie.Need-mul-i Inv-loop μ-loop
-mul-i c = omega (arith, loop (c .before) .loop .inv .0 .led .inside)
+mul-i c = omega (arith, inside (c .before))
 
 shared-slice-read-i : tie.Need-shared-slice-read-i Inv-loop μ-loop
-shared-slice-read-i c = let l = loop (c .before .before) in omega (arith, l .loop .inv .0 .led .inside, begin l .pre .0 .grounds .lists .long-link)
+shared-slice-read-i c = omega (arith, inside (c .before .before), begin (loop (c .before .before)) .pre .0 .grounds .lists .long-link)
 
 cast-i : tie.Need-cast-i Inv-loop μ-loop
-cast-i c = let o = ahead (c .before .before) in omega (arith, o .next-is, o .led-next .inside)
+cast-i c = omega (arith, inside (c .before .before))
 
 sub-i : tie.Need-sub-i Inv-loop μ-loop
 sub-i c = omega (arith, ahead (c .before .before) .next-is)
@@ -194,7 +199,7 @@ returns : tie.Need-returns Inv-loop μ-loop
 returns c = broken (tried (c .before) .try-pair .ensures) (c .if2 .taken)
 
 slice-write-tested : tie.Need-slice-write-tested Inv-loop μ-loop
-slice-write-tested c = let z = loop (turn (counted (tried (c .before)))) .loop .inv .0 in omega (arith, z .led .inside, z .flags .long)
+slice-write-tested c = let t = turn (counted (tried (c .before))) in omega (arith, inside t, loop t .loop .inv .0 .flags .long)
 
 loop-less : tie.Need-loop-less Inv-loop μ-loop
 loop-less c = omega (arith, ahead (turn (counted (tried (c .before)))) .fewer)
