@@ -18,8 +18,7 @@ use Rattle.delays.specs.WaysOut.{level, Led, wordOut}
 use Rattle.delays.specs.Needs.{mostWord, WayHeld}
 use Rattle.delays.proofs.WayOutLaws.{Onward, onward, gap-ends, word-short}
 use Rattle.delays.proofs.NeedLaws.{appends-held, held-needs, held-next, lack-low, none-needed}
-use Rattle.equations.specs.Tests.{Measured, NextHeld, NeedsHeld, PairPasses, Flagged}
-use Rattle.equations.specs.declared.steps.OnWay.{OnWay}
+use Rattle.equations.specs.Tests.{Measured, NeedsHeld, PairPasses, Flagged}
 use Rattle.equations.proofs.TriedLaws.{flagged-one}
 
 -- nothing is needed at a level pair

@@ -14,7 +14,7 @@ use Rattle.transducer.specs.Paths.{Functional}
 use Rattle.transducer.specs.Useful.{UsefulPair}
 use Rattle.transducer.specs.Walks.{Step, both, left, right, Move}
 use Rattle.transducer.specs.declared.Transducer.{Transducer}
-use Rattle.product.specs.Numbers.{mostPairs, pairOf, firstOf, secondOf, noTransition, sides, labelOf, stepOf, Moves}
+use Rattle.product.specs.Numbers.{mostPairs, pairOf, noTransition, sides, labelOf, stepOf, Moves}
 use Rattle.product.specs.Machine.{ImageOf}
 use Rattle.product.proofs.ImageLaws.{steps-move, move-steps}
 use Rattle.product.proofs.StepLaws.{target-low}

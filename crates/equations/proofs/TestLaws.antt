@@ -1,6 +1,6 @@
 -- Where a test fails, the walk that is written leads from two start states to two final states in few steps, and its two sides write different
 -- words. Assumes nothing.
-use mathlib.Core.Path.{_≡_, ap}
+use mathlib.Core.Path.{_≡_}
 use mathlib.Core.List.{List, [], _∷_, _++_, append-assoc}
 use Prim.Native.Nat.{ℕ, _*_, _-_, _≤_, _<_}
 use native.Mathlib.Omega.{arith}
@@ -89,7 +89,7 @@ module _ {t : Transducer} {r : UsefulPairs} {out out-step : List ℕ} (standing 
       round-fails d = fails (s .stands) round-whole round-short (rw (s .stands .is) at d)
 
       -- where its sides write the same
-      pub round-passes : Same t (walkOf (part p steps)) → WayPasses t out out-step (walkOf (wayIn into into-step (s .in-size) i)) i
+      round-passes : Same t (walkOf (part p steps)) → WayPasses t out out-step (walkOf (wayIn into into-step (s .in-size) i)) i
       round-passes same n f = rw (s .stands .is, walk-append, follows-unique (s .leaves) f) at same
 
     -- the way into i, the step and the way out of j, where the sides of the way into i and out of it write the same

@@ -8,15 +8,14 @@ use native.Mathlib.Omega.{arith}
 use borrow.Author.Tests.{ltb-true, ltb-false, eqb-true, eqb-false}
 use lib.Dec.{eqb, ltb}
 use lib.ListN.{length, take, drop, getD, set, length-set, length-drop}
-use lib.Seq.{getD-set-same, getD-set-other, length-take-le}
+use lib.Seq.{getD-set-other, length-take-le}
 use Rattle.transducer.specs.declared.StateSet.{StateSet}
-use Rattle.product.specs.Numbers.{mostPairs, noStep, labelOf, Label}
+use Rattle.product.specs.Numbers.{mostPairs, labelOf, Label}
 use Rattle.product.specs.Machine.{Machine}
 use Rattle.product.specs.Steps.{pastLast, Steps, targetOf}
 use Rattle.product.proofs.StepLaws.{Past, step-label, past-last-row}
 use Rattle.delays.specs.Outputs.{Appends}
-use Rattle.delays.specs.WaysOut.{level, Placed}
-use Rattle.delays.specs.Needs.{mostWord, lackOf, needsOf, WayHeld, Equation, StepHolds, SameStep, Passes, FrontsKept}
+use Rattle.delays.specs.Needs.{mostWord, lackOf, WayHeld, Equation, StepHolds, SameStep, Passes, FrontsKept}
 use Rattle.delays.proofs.NeedLaws.{needs-few, none-needed, equation-again}
 use Rattle.equations.specs.Tests.{fine, uneven, Measured, Places, StepsPass, Failing, Tried, Seen, NextHeld, NeedsHeld, Testing, Uneven, PairPasses, Answer, PairTried, Flagged, WayTried}
 use Rattle.equations.specs.declared.Failure.{Failure}

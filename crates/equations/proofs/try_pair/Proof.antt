@@ -1,6 +1,5 @@
 -- `try_pair` meets its contract. Assumes nothing.
 use mathlib.Core.Path.{_∙_}
-use native.Mathlib.Omega.{arith}
 use borrow.Author.Needs.{needs}
 use Rattle.equations.proofs.TriedLaws.{testing-starts, pair-uneven, pair-steps}
 use Rattle.equations.proofs.try_pair.Statement.{statement}

@@ -1,8 +1,7 @@
 -- `try_pairs` meets its contract. The invariant: the pairs at the places from h on pass, and those that have a flag. Assumes nothing.
-use mathlib.Core.Path.{_≡_, refl, sym, _∙_}
+use mathlib.Core.Path.{sym, _∙_}
 use Prim.Native.Nat.{_-_, _≤_, _<_}
 use native.Mathlib.Omega.{arith}
-use borrow.Author.Needs.{needs}
 use Rattle.equations.specs.Tests.{Buffers, Flagged}
 use Rattle.equations.proofs.TriedLaws.{broken, passes, Behind, behind-one, all-pass}
 use Rattle.equations.proofs.try_pairs.Statement.{statement}

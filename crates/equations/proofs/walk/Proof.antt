@@ -1,11 +1,10 @@
 -- `walk` meets its contract: at an uneven pair of start states the way out of it is such a walk; at a step one of two walks is, since the sides of both
 -- cannot write the same. Assumes nothing.
-use mathlib.Core.Path.{refl, sym, _∙_}
+use mathlib.Core.Path.{refl, _∙_}
 use native.Mathlib.Omega.{arith}
 use borrow.Author.Needs.{needs}
-use borrow.Author.Tests.{not-true, not-false}
 use Rattle.equations.proofs.PlaceLaws.{way-stands}
-use Rattle.equations.proofs.TestLaws.{valid, short-out, short-in, way-fails, round-candidate, round-fails, round-passes, through-fails}
+use Rattle.equations.proofs.TestLaws.{valid, short-out, short-in, way-fails, round-candidate, round-fails, through-fails}
 use Rattle.equations.proofs.walk.Statement.{statement}
 use Rattle.equations.proofs.walk.Tie as tie
 
