@@ -7,8 +7,8 @@ use native.Mathlib.Numerals.{add-one}
 use native.Mathlib.Omega.{arith}
 use lib.ListN.{length, drop, getD, length-append, drop-of-length-le}
 use lib.Seq.{drop-cons}
-use Rattle.fields.specs.Number.{leadingOf, leadingsOf, columnsOf}
-use Rattle.fields.proofs.Columns.{length-columns, columns-number}
+use Rattle.records.specs.Number.{leadingOf, leadingsOf, columnsOf}
+use Rattle.records.proofs.Columns.{length-columns, columns-number}
 use Rattle.listing.specs.Listing.{fieldWidth, fieldLimit, recordEnd, recordOf, countedOf, letterV, letterW, letterA, letterB, letterX, letterY, witnessListing, verdictListing, refusalListing, translationListing, pairBytes, VerdictRoom}
 use Rattle.words.specs.Puts.{Room, Puts}
 use Rattle.words.proofs.PutsLaws.{Left, left-all, left-room, left-next, left-through, left-none}

@@ -3,7 +3,7 @@ use mathlib.Core.Bool.{Bool, cond}
 use mathlib.Core.List.{List, [], _∷_, _++_, flatMap}
 use Prim.Native.Nat.{ℕ, _+_, _*_, _≤_}
 use lib.ListN.{length}
-use Rattle.fields.specs.Number.{columnsOf}
+use Rattle.records.specs.Number.{columnsOf}
 use Rattle.transducer.specs.Limits.{mostOutputs}
 use Rattle.wordsearch.specs.Limits as words
 use Rattle.witness.specs.Sides as walks

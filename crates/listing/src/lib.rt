@@ -4,7 +4,7 @@
 ghost use mathlib.Core.List.{[], _∷_};
 ghost use Prim.Native.Nat.{_<_, _≤_};
 ghost use lib.ListN.{length};
-ghost use Rattle.fields.specs.Number.{columnsOf};
+ghost use Rattle.records.specs.Number.{columnsOf};
 ghost use Rattle.listing.specs.Listing.{fieldWidth, fieldLimit, recordOf, countedOf, verdictListing, refusalListing, translationListing, pairBytes, VerdictRoom, TranslationRoom};
 ghost use Rattle.words.specs.Puts.{Room, Puts};
 use witness::CODES;
@@ -118,7 +118,7 @@ fn put_field(out: &mut [u8], at: usize, v: u32) -> usize
     requires { ⌜ Room (now out) at (columnsOf fieldWidth v) ⌝ }
     ensures { λ r. ⌜ Puts (now (out .entry)) at (columnsOf fieldWidth v) (now (out .exit)) r ⌝ }
 {
-    fields::put_number(out, at, FIELD_WIDTH, v);
+    records::number::put_number(out, at, FIELD_WIDTH, v);
     at + FIELD_WIDTH
 }
 

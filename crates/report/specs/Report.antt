@@ -5,7 +5,7 @@ use Prim.Native.Nat.{ℕ, _+_, _≤_}
 use lib.Dec.{eqb}
 use lib.ListN.{length, take, replicate}
 use Rattle.words.specs.Puts.{Puts}
-use Rattle.fields.specs.Letters.{mostBytes}
+use Rattle.records.specs.Letters.{mostBytes}
 use Rattle.wordsearch.specs.Limits.{mostWord}
 use Rattle.witness.specs.Showing.{Buffers}
 use Rattle.engine.specs.Engine.{Judged, FileTranslated}

@@ -4,8 +4,8 @@ use mathlib.Core.List.{List, [], _∷_, _++_}
 use Prim.Native.Nat.{ℕ}
 use native.Mathlib.Omega.{arith}
 use lib.ListN.{drop}
-use Rattle.fields.specs.Byte.{byteFault}
-use Rattle.fields.specs.Letters.{letterT, recordEnd}
+use Rattle.records.specs.Byte.{byteFault}
+use Rattle.records.specs.Letters.{letterT, recordEnd}
 use Rattle.transducer.specs.Limits.{mostStates, mostTransitions}
 use Rattle.tablereader.specs.Header.{headerOf}
 use Rattle.tablereader.specs.Record.{headerSize, firstOf, numberAt}

@@ -11,14 +11,14 @@ use borrow.Author.Tests.{ltb-true, lt-ltb, le-leb, eqb-true, eqb-false, eq-eqb}
 use lib.Dec.{ltb, leb, eqb}
 use lib.ListN.{length, getD, drop, length-drop, take-append-drop}
 use lib.Seq.{drop-at, drop-cons, drop-drop, getD-drop}
-use Rattle.fields.specs.Byte.{byteFault}
-use Rattle.fields.specs.Field.{columns, fieldOf}
-use Rattle.fields.specs.Letters.{recordEnd}
-use Rattle.fields.specs.Number.{columnsOf}
-use Rattle.fields.specs.declared.Field.{Field}
-use Rattle.fields.specs.declared.Field.the-variants.{Value, Ended, NotANumber}
-use Rattle.fields.proofs.Columns.{length-columns}
-use Rattle.fields.proofs.RoundTrip.{field-there, field-unique}
+use Rattle.records.specs.Byte.{byteFault}
+use Rattle.records.specs.Field.{columns, fieldOf}
+use Rattle.records.specs.Letters.{recordEnd}
+use Rattle.records.specs.Number.{columnsOf}
+use Rattle.records.specs.declared.field.Field.{Field}
+use Rattle.records.specs.declared.field.Field.the-variants.{Value, Ended, NotANumber}
+use Rattle.records.proofs.Columns.{length-columns}
+use Rattle.records.proofs.RoundTrip.{field-there, field-unique}
 use Rattle.tablereader.specs.Outcome.{outOfRange}
 use Rattle.tablereader.specs.Record.{firstOf, inRange, numberAt}
 use Rattle.tablereader.specs.declared.record.Number.{Number}

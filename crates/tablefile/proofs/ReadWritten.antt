@@ -7,7 +7,7 @@ use Prim.Native.Nat.{ℕ, _+_, _*_, _≤_, _<_}
 use native.Mathlib.Omega.{arith}
 use borrow.Author.Tests.{le-ltb}
 use lib.ListN.{length, getD, drop, replicate, length-drop}
-use Rattle.fields.specs.Letters.{letterS, letterF, mostBytes}
+use Rattle.records.specs.Letters.{letterS, letterF, mostBytes}
 use Rattle.transducer.specs.Limits.{mostStates, mostTransitions, mostOutputs}
 use Rattle.transducer.specs.StateSet.{In, noStates}
 use Rattle.transducer.specs.Transition.{outside, at, outputAt, firsts}

@@ -7,8 +7,8 @@ use native.Mathlib.Omega.{arith}
 use borrow.Author.Tests.{le-ltb, ltb-false}
 use lib.Dec.{ltb}
 use lib.ListN.{length, drop}
-use Rattle.fields.specs.Byte.{byteFault}
-use Rattle.fields.specs.Letters.{recordEnd}
+use Rattle.records.specs.Byte.{byteFault}
+use Rattle.records.specs.Letters.{recordEnd}
 use Rattle.transducer.specs.StateSet.{withState}
 use Rattle.transducer.specs.declared.StateSet.{StateSet}
 use Rattle.tablereader.specs.Outcome.{notRising, outcomeOf, _▸_}

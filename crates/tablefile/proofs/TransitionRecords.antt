@@ -6,8 +6,8 @@ use native.Mathlib.Numerals.{add-one}
 use native.Mathlib.Omega.{arith}
 use lib.ListN.{length, getD, drop, set, replicate}
 use lib.Seq.{sets}
-use Rattle.fields.specs.Byte.{byteFault}
-use Rattle.fields.specs.Letters.{letterL, recordEnd}
+use Rattle.records.specs.Byte.{byteFault}
+use Rattle.records.specs.Letters.{letterL, recordEnd}
 use Rattle.transducer.specs.Limits.{mostOutputs, mostCode}
 use Rattle.transducer.specs.Transition.{OutputWord, outside, outputAt, writtenBy, bytesOf}
 use Rattle.transducer.specs.Valid.{Used}

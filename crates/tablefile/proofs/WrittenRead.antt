@@ -8,7 +8,7 @@ use native.Mathlib.Omega.{arith}
 use borrow.Author.Tests.{ltb-false}
 use lib.Dec.{ltb}
 use lib.ListN.{length, drop, drop-of-length-le}
-use Rattle.fields.specs.Letters.{letterS, letterF, mostBytes}
+use Rattle.records.specs.Letters.{letterS, letterF, mostBytes}
 use Rattle.transducer.specs.Limits.{mostTransitions}
 use Rattle.transducer.specs.StateSet.{noStates}
 use Rattle.transducer.specs.Transition.{outside, at, firsts}

@@ -5,7 +5,7 @@ use mathlib.Core.Bool.{true}
 use mathlib.Core.List.{List}
 use Prim.Native.Nat.{ℕ, _+_, _*_, _≤_}
 use lib.ListN.{length, take}
-use Rattle.fields.specs.Letters.{mostBytes}
+use Rattle.records.specs.Letters.{mostBytes}
 use Rattle.words.specs.Put.{put}
 use Rattle.transducer.specs.Valid.{validOf, Shaped}
 use Rattle.transducer.specs.declared.Transducer.{Transducer}

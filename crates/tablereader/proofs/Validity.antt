@@ -12,7 +12,7 @@ use Rattle.transducer.specs.Blank.{blankTransducer}
 use Rattle.transducer.specs.Valid.{Valid, Shaped}
 use Rattle.transducer.specs.declared.Transducer.{Transducer}
 use Rattle.tablereader.specs.Outcome.{numberOf}
-use Rattle.fields.specs.Letters.{letterS, letterF}
+use Rattle.records.specs.Letters.{letterS, letterF}
 use Rattle.tablereader.specs.Header.{headerOf}
 use Rattle.tablereader.specs.Reader.{startsOf, finalsOf, transitionsOf, outcomeWith, tableWith, readOf}
 use Rattle.tablereader.specs.declared.header.Header.{Header}

@@ -1,10 +1,10 @@
 -- The first record, `T`.
 use mathlib.Core.List.{List, [], _∷_}
 use Prim.Native.Nat.{ℕ}
-use Rattle.fields.specs.Byte.{byteFault}
+use Rattle.records.specs.Byte.{byteFault}
 use Rattle.transducer.specs.Limits.{mostStates, mostTransitions}
 use Rattle.tablereader.specs.Record.{firstOf, numberAt}
-use Rattle.fields.specs.Letters.{letterT, recordEnd}
+use Rattle.records.specs.Letters.{letterT, recordEnd}
 use Rattle.tablereader.specs.declared.header.Header.{Header}
 
 -- the letter; n, 1 to 32; the counts of start states and of final states, 0 to 32; k, 0 to 256; the end

@@ -9,7 +9,7 @@ use Rattle.transducer.specs.Blank.{blankTransducer}
 use Rattle.transducer.specs.declared.Transducer.{Transducer}
 use Rattle.tablereader.specs.Outcome.{numberOf, outcomeOf, bytesFollow, tooLong, _▸_}
 use Rattle.tablereader.specs.Record.{headerSize, stateSize}
-use Rattle.fields.specs.Letters.{letterS, letterF, mostBytes}
+use Rattle.records.specs.Letters.{letterS, letterF, mostBytes}
 use Rattle.tablereader.specs.Header.{headerOf}
 use Rattle.tablereader.specs.States.{statesFrom}
 use Rattle.tablereader.specs.Transitions.{transitionsFrom}

@@ -2,14 +2,14 @@
 use mathlib.Core.List.{List, [], _∷_}
 use Prim.Native.Nat.{ℕ, zero, suc, _+_, _-_, _*_}
 use lib.ListN.{set, replicate}
-use Rattle.fields.specs.Byte.{byteFault}
+use Rattle.records.specs.Byte.{byteFault}
 use Rattle.transducer.specs.Limits.{mostOutputs, mostCode}
 use Rattle.transducer.specs.Blank.{blankTransducer}
 use Rattle.transducer.specs.declared.OutputCode.{OutputCode}
 use Rattle.transducer.specs.declared.Transition.{Transition}
 use Rattle.tablereader.specs.Outcome.{outcomeOf, _▸_}
 use Rattle.tablereader.specs.Record.{firstOf, numberAt}
-use Rattle.fields.specs.Letters.{letterL, recordEnd}
+use Rattle.records.specs.Letters.{letterL, recordEnd}
 use Rattle.tablereader.specs.declared.Outcome.{Outcome}
 use Rattle.tablereader.specs.declared.Outcome.the-variants.{Taken}
 use Rattle.tablereader.specs.declared.transitions.Outputs.{Outputs}

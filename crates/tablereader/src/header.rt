@@ -20,12 +20,12 @@ pub struct Header {
 pub fn read_header(text: &[u8]) -> Header
     ensures { λ r. ⌜ r ≡ headerOf (now (text .entry)) ⌝ }
 {
-    let letter = fields::byte_fault(text, 0, b'T');
+    let letter = records::field::byte_fault(text, 0, b'T');
     let states = record::number_at(text, 1, 1, limits::STATES as u16);
     let starts = record::number_at(text, 5, 0, limits::STATES as u16);
     let finals = record::number_at(text, 9, 0, limits::STATES as u16);
     let transitions = record::number_at(text, 13, 0, limits::TRANSITIONS as u16);
-    let end = fields::byte_fault(text, 17, recordreader::END);
+    let end = records::field::byte_fault(text, 17, records::reader::END);
     let faults = [
         letter,
         states.fault,

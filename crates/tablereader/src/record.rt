@@ -1,7 +1,7 @@
 // What every record is made of: the numbers of the refusals, and a number that must stand in a range.
 ghost use mathlib.Core.Path.{_≡_};
 ghost use Rattle.tablereader.specs.Record.{firstOf, inRange, numberAt};
-use fields::Field;
+use records::field::Field;
 
 // The refusals of document 01, "What a refused call hands over".
 pub const ENDED: u8 = 1;
@@ -31,7 +31,7 @@ pub struct Number {
 pub fn number_at(text: &[u8], at: usize, low: u16, high: u16) -> Number
     ensures { λ r. ⌜ r ≡ numberAt (now (text .entry)) at low high ⌝ }
 {
-    let f = fields::field_at(text, at);
+    let f = records::field::field_at(text, at);
     in_range(f, low, high)
 }
 

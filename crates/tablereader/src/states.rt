@@ -3,7 +3,7 @@ ghost use mathlib.Core.Path.{_≡_};
 ghost use Prim.Native.Nat.{_+_, _*_, _≤_};
 ghost use Rattle.transducer.specs.Limits.{mostStates};
 ghost use Rattle.tablereader.specs.Record.{stateSize, mostRecords};
-ghost use Rattle.fields.specs.Letters.{mostBytes};
+ghost use Rattle.records.specs.Letters.{mostBytes};
 ghost use Rattle.tablereader.specs.States.{risingFault, stateRecord, statesFrom};
 use crate::Outcome;
 use crate::record;
@@ -47,7 +47,7 @@ fn state_record(text: &[u8], at: usize, letter: u8, n: u16, low: u16) -> Number
     requires { ⌜ (at + stateSize ≤ mostBytes) × (1 ≤ n) ⌝ }
     ensures { λ r. ⌜ r ≡ stateRecord (now (text .entry)) letter n at low ⌝ }
 {
-    let read = recordreader::read_one_field(text, at, letter);
+    let read = records::reader::read_one_field(text, at, letter);
     let field = read.field;
     let state = record::in_range(field, 0, n - 1);
     let rising = rising_fault(low, state.value);

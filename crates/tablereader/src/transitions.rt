@@ -3,7 +3,7 @@ ghost use mathlib.Core.Path.{_≡_};
 ghost use Prim.Native.Nat.{_+_, _*_, _≤_};
 ghost use Rattle.transducer.specs.Limits.{mostStates, mostTransitions, mostOutputs};
 ghost use Rattle.tablereader.specs.Record.{transitionSize, mostRecords};
-ghost use Rattle.fields.specs.Letters.{mostBytes};
+ghost use Rattle.records.specs.Letters.{mostBytes};
 ghost use Rattle.tablereader.specs.Transitions.{outputsFrom, transitionRecord, transitionsFrom};
 use crate::Outcome;
 use crate::record;
@@ -67,14 +67,14 @@ fn transition_record(text: &[u8], at: usize, n: u16) -> OneTransition
     requires { ⌜ (at + transitionSize ≤ mostBytes) × (1 ≤ n) × (n ≤ mostStates) ⌝ }
     ensures { λ r. ⌜ r ≡ transitionRecord (now (text .entry)) at n ⌝ }
 {
-    let letter = fields::byte_fault(text, at, b'L');
+    let letter = records::field::byte_fault(text, at, b'L');
     let from = record::number_at(text, at + 1, 0, n - 1);
     let to = record::number_at(text, at + 5, 0, n - 1);
     let input = record::number_at(text, at + 9, 0, limits::CODE as u16);
     let count = record::number_at(text, at + 13, 0, limits::OUTPUTS as u16);
     let outputs = read_outputs(text, at + 17, count.value);
     let last = at + 17 + 4 * count.value as usize;
-    let end = fields::byte_fault(text, last, recordreader::END);
+    let end = records::field::byte_fault(text, last, records::reader::END);
     let faults = [
         letter,
         from.fault,

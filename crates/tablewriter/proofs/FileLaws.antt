@@ -4,8 +4,8 @@ use mathlib.Core.Bool.{false}
 use mathlib.Core.List.{List, [], _∷_, _++_, flatMap, flatten, append-assoc, append-nil}
 use Prim.Native.Nat.{ℕ}
 use native.Mathlib.Numerals.{add-one}
-use Rattle.fields.specs.Field.{columns}
-use Rattle.fields.specs.Number.{columnsOf}
+use Rattle.records.specs.Field.{columns}
+use Rattle.records.specs.Number.{columnsOf}
 use Rattle.transducer.specs.StateSet.{has, In}
 use Rattle.transducer.specs.Transition.{OutputWord, at, outputAt, firsts, bytesOf}
 use Rattle.transducer.specs.declared.OutputCode.{OutputCode}
@@ -13,7 +13,7 @@ use Rattle.transducer.specs.declared.StateSet.{StateSet}
 use Rattle.transducer.specs.declared.Transition.{Transition}
 use Rattle.transducer.specs.declared.Transducer.{Transducer}
 use Rattle.tablewriter.specs.File.{fieldsOf, recordBytes, stateAt, statesBelow, statesOf, sizeOf, stateBytes, transitionBytes, transitionBytesBelow, headerBytes, writeOf}
-use Rattle.fields.specs.Letters.{letterT, letterS, letterF, recordEnd}
+use Rattle.records.specs.Letters.{letterT, letterS, letterF, recordEnd}
 use Rattle.tablewriter.proofs.TurnLaws.{Grows}
 
 module _ {A : Type 0} (f : A → List ℕ) where

@@ -6,9 +6,9 @@ use Prim.Native.Nat.{ℕ, zero, suc, _+_, _*_, _≤_}
 use native.Mathlib.Numerals.{add-one}
 use native.Mathlib.Omega.{arith}
 use lib.ListN.{length, length-append, length-map}
-use Rattle.fields.specs.Field.{columns}
-use Rattle.fields.specs.Number.{columnsOf}
-use Rattle.fields.proofs.Columns.{length-columns}
+use Rattle.records.specs.Field.{columns}
+use Rattle.records.specs.Number.{columnsOf}
+use Rattle.records.proofs.Columns.{length-columns}
 use Rattle.transducer.specs.Limits.{mostStates, mostOutputs}
 use Rattle.transducer.specs.StateSet.{has, In}
 use Rattle.transducer.specs.Transition.{at, firsts, writtenBy, bytesOf}
@@ -19,7 +19,7 @@ use Rattle.transducer.specs.declared.Transition.{Transition}
 use Rattle.transducer.specs.declared.Transducer.{Transducer}
 use Rattle.transducer.proofs.SizeLaws.{length-written}
 use Rattle.tablewriter.specs.File.{fieldsOf, recordBytes, stateAt, statesBelow, statesOf, sizeOf, stateBytes, transitionBytes, transitionBytesBelow, outputsBelow, allOutputs, headerBytes, writeOf}
-use Rattle.fields.specs.Letters.{letterT, letterS, letterF, letterL, recordEnd, mostBytes}
+use Rattle.records.specs.Letters.{letterT, letterS, letterF, letterL, recordEnd, mostBytes}
 use Rattle.tablewriter.proofs.FileLaws.{transitions-grow}
 
 -- ---- sets of states and output codes

@@ -4,9 +4,9 @@ use mathlib.Core.Bool.{cond}
 use mathlib.Core.List.{List, [], _∷_, _++_, flatMap}
 use Prim.Native.Nat.{ℕ, zero, suc, _+_}
 use lib.ListN.{length}
-use Rattle.fields.specs.Field.{columns}
-use Rattle.fields.specs.Letters.{letterT, letterS, letterF, letterL, recordEnd}
-use Rattle.fields.specs.Number.{columnsOf}
+use Rattle.records.specs.Field.{columns}
+use Rattle.records.specs.Letters.{letterT, letterS, letterF, letterL, recordEnd}
+use Rattle.records.specs.Number.{columnsOf}
 use Rattle.transducer.specs.Limits.{mostStates}
 use Rattle.transducer.specs.StateSet.{has}
 use Rattle.transducer.specs.Transition.{bytesOf, at, firsts, writtenBy}

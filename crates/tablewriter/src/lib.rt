@@ -1,9 +1,9 @@
 // The writer of a table file (document 01, "The file" and "Writer and programs"). It refuses a transducer that breaks a rule, then a buffer that is
 // shorter than the file, and a refusal changes no place of the buffer. The contract of `write` cites specs/Writing.antt; the bytes of the file are one
-// definition, `writeOf` of specs/File.antt. The length is counted first (size.rt), then the records are written (records.rt).
+// definition, `writeOf` of specs/File.antt. The length is counted first (size.rt), then the records are written (file.rt).
 ghost use Rattle.tablewriter.specs.Writing.{Wrote};
 
-mod records;
+mod file;
 mod size;
 
 use transducer::Transducer;
@@ -26,6 +26,6 @@ pub fn write(t: Transducer, out: &mut [u8]) -> Writing
     if out.len() < size::file_length(t) {
         return Writing::BufferTooShort;
     }
-    let length = records::put_file(out, t);
+    let length = file::put_file(out, t);
     Writing::Written(length)
 }

@@ -1,7 +1,7 @@
 -- `put_field` meets its contract: a field has six columns. Assumes nothing.
 use borrow.Author.Needs.{needs}
 use native.Mathlib.Omega.{arith}
-use Rattle.fields.proofs.Columns.{length-columns}
+use Rattle.records.proofs.Columns.{length-columns}
 use Rattle.listing.specs.Listing.{fieldWidth}
 use Rattle.listing.proofs.put_field.Statement.{statement}
 use Rattle.listing.proofs.put_field.Tie as tie

@@ -1,6 +1,6 @@
 -- `state_record` meets its contract: it is the definition, with what the calls ensure. Assumes nothing.
 use borrow.Author.Needs.{needs}
-use Rattle.recordreader.specs.Reader.{oneFieldAt}
+use Rattle.records.specs.Reader.{oneFieldAt}
 use Rattle.tablereader.specs.Record.{numberAt}
 use Rattle.tablereader.specs.States.{stateRecord}
 use Rattle.tablereader.proofs.states.state_record.Statement.{statement}

@@ -1,3 +1,0 @@
--- Laws of the definitions, for the crates above.
-pub mod Columns
-pub mod RoundTrip

@@ -1,0 +1,6 @@
+-- Laws of the definitions, for the crates above; what the walks over the record reader share.
+pub mod Columns
+pub mod RoundTrip
+pub mod Parts
+pub mod Walk
+pub mod Record

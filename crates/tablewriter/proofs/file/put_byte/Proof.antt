@@ -1,0 +1,22 @@
+-- `put_byte` meets its contract: a store puts one byte. Assumes nothing.
+use borrow.Author.Needs.{needs}
+use mathlib.Core.Path.{refl}
+use native.Mathlib.Omega.{arith}
+use Rattle.words.proofs.PutLaws.{put-one}
+use Rattle.tablewriter.proofs.file.put_byte.Statement.{statement}
+use Rattle.tablewriter.proofs.file.put_byte.Tie as tie
+
+slice-write-out : tie.Need-slice-write-out
+slice-write-out c = search needs
+
+add-result : tie.Need-add-result
+add-result c = search needs
+
+same-length : tie.Need-same-length
+same-length c = search needs
+
+returns : tie.Need-returns
+returns c = record { buffer = put-one _ _ _ (omega arith); place = refl }
+
+pub put-byte-spec : {M : Type 1} → statement M
+put-byte-spec = tie.close (tie.spec slice-write-out add-result same-length returns)
