@@ -14,10 +14,6 @@ use Rattle.engine.specs.declared.Judgement.{Judgement}
 
 -- ---- refusals
 
--- an answer list that is too short: a refusal that document 01 does not have
-abbrev pub answerTooShort : ℕ
-answerTooShort = 100
-
 -- a refusal as one number: its own number in the low 16 bits, the record's number above; 0 where nothing is refused
 unfoldable pub refusalCode : ℕ → ℕ → ℕ
 refusalCode number at = number + 65536 * at

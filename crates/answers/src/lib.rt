@@ -5,11 +5,9 @@ ghost use Prim.Native.Nat.{_≤_};
 ghost use lib.ListN.{length};
 ghost use Rattle.words.specs.Put.{put};
 ghost use Rattle.tablereader.specs.Outcome.{numberOf, recordOf};
-ghost use Rattle.tablewriter.specs.Writing as wrote;
 ghost use Rattle.answers.specs.Answers.{refusalCode, verdictAnswer, flagOf, kindOf, numbersOf, Given};
 use engine::Judgement;
 use tablereader::Outcome;
-use tablewriter::Writing;
 use words::Comparison;
 
 // How many numbers the answer to a verdict has: split, u and five counts.
@@ -23,11 +21,6 @@ pub const DIFFERENCE: usize = 2;
 // The answer to a writing: a byte count.
 pub const WRITE: usize = 1;
 
-// The refusal of an answer list that is too short, which document 01 does not have.
-pub const TOO_SHORT: u32 = 100;
-// Document 01's refusal of a buffer that is too short.
-pub const BUFFER_TOO_SHORT: u32 = 7;
-
 // A refusal as one number: its own number in the low 16 bits, the record's number above.
 pub fn refusal(number: u16, at: u16) -> u32
     ensures { λ r. ⌜ r ≡ refusalCode number at ⌝ }
@@ -39,7 +32,7 @@ pub fn refusal(number: u16, at: u16) -> u32
 pub fn of_file(reader: Outcome) -> u32
     ensures { λ r. ⌜ r ≡ refusalCode (numberOf reader) (recordOf reader) ⌝ }
 {
-    refusal(reader.number() as u16, engine::record_number(reader))
+    refusal(reader.number() as u16, reader.record())
 }
 
 // The number of a comparison: 0 level, 1 first ahead, 2 second ahead, 3 clash.
@@ -51,28 +44,6 @@ pub fn kind(comparison: Comparison) -> u64
         Comparison::FirstAhead => 1,
         Comparison::SecondAhead => 2,
         Comparison::Clash => 3,
-    }
-}
-
-// Document 01's number of a writing, 0 where the file was written.
-pub fn writing_number(writing: Writing) -> u16
-    ensures { λ r. ⌜ r ≡ wrote.numberOf writing ⌝ }
-{
-    match writing {
-        Writing::Written(_) => 0,
-        Writing::Invalid => 8,
-        Writing::BufferTooShort => 7,
-    }
-}
-
-// How many bytes a writing wrote, 0 with a refusal.
-pub fn writing_length(writing: Writing) -> u64
-    ensures { λ r. ⌜ r ≡ wrote.lengthOf writing ⌝ }
-{
-    match writing {
-        Writing::Written(length) => length as u64,
-        Writing::Invalid => 0,
-        Writing::BufferTooShort => 0,
     }
 }
 

@@ -15,7 +15,7 @@ use Rattle.transducer.specs.Alike.{Alike}
 use Rattle.transducer.specs.declared.Transducer.{Transducer}
 use Rattle.transducer.proofs.FunctionalLaws.{functional-paths, witness-refutes}
 use Rattle.transducer.proofs.AlikeLaws.{alike-functional}
-use Rattle.tablereader.proofs.Validity.{read-valid}
+use Rattle.tablereader.proofs.Validity.{read-valid, read-accepted}
 use Rattle.wordsearch.specs.Limits.{mostWord}
 use Rattle.translator.proofs.TranslationLaws as translation
 use Rattle.translator.proofs.TranslationLaws.{gives-the-output}
@@ -30,7 +30,7 @@ use Rattle.engine.specs.Engine.{Taken, tableOf, judgementOf, VerdictOn, 
 use Rattle.engine.specs.Demand3.{TwoReadings, JudgedInFull, TranslatedInFull, Exact, TheOutput, SameAnswer, Demand3}
 use Rattle.engine.specs.declared.Judgement.{Judgement}
 use Rattle.engine.specs.declared.FileTranslation.{FileTranslation}
-use Rattle.engine.proofs.EngineLaws.{table-valid, single-verdict}
+use Rattle.engine.proofs.EngineLaws.{single-verdict}
 use Rattle.engine.proofs.InputCodes.{reads-in-range}
 
 -- ---- two readings
@@ -88,7 +88,7 @@ module _ {t : Transducer} {b b′ : Buffers} {v : Verdict} (d : Decided t b b′
 
 module _ {f : List ℕ} {b b′ : Buffers} {r : Judgement} (taken : Taken f) (h : JudgedInFull f b b′ r) where
   none-refused : refusalOf (tableOf f) b ≡ 0
-  none-refused = refusal-none (tableOf f) b (table-valid f) (h .full)
+  none-refused = refusal-none (tableOf f) b (read-accepted f) (h .full)
 
   on-table : VerdictOn (tableOf f) b b′ r
   on-table = h .judged .taken taken
@@ -111,7 +111,7 @@ file-output : {f input out₀ out : List ℕ} {q : FileTranslation} {π : List �
 file-output {f} {input} {π = π} taken functional h short a e =
     let answered = h .translated .taken taken in
     let given =
-    gives-the-output functional (table-valid f) short (reads-in-range (read-valid f) (a .path) input e) (h .room)
+    gives-the-output functional (read-accepted f) short (reads-in-range (read-valid f) (a .path) input e) (h .room)
     (record { π = π; accepting = a; read = e; written = refl })
     (answered .translated)
     in
@@ -133,7 +133,7 @@ file-same {f} {g} {out₀ = out₀} {out} {out₀′} {out′} {q} {q′} taken 
     let a = h .translated .taken taken in
     let a′ = h′ .translated .taken taken′ in
     let same =
-    translation.alike-translates alike (table-valid f) (table-valid g) (a .translated) (a′ .translated) functional (h .room) (h′ .room)
+    translation.alike-translates alike (read-accepted f) (read-accepted g) (a .translated) (a′ .translated) functional (h .room) (h′ .room)
     in
     let answer : q ≡ q′ = a .answer ∙ ap fileTranslationOf (same .answer) ∙ sym (a′ .answer) in
     let size : q .length ≡ length (same .bytes) = ap (λ p. p .length) (a .answer) ∙ same .size in

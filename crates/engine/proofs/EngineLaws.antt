@@ -9,12 +9,14 @@ use Prim.Native.Nat.{ℕ}
 use native.Mathlib.Decide.{ℕ-discrete}
 use borrow.Author.Tests.{eqb-false}
 use lib.Dec.{eqb}
-use Rattle.transducer.specs.Valid.{validOf}
+use Rattle.transducer.specs.Refusals.{tooShort}
 use Rattle.transducer.specs.Paths.{Functional}
 use Rattle.transducer.specs.declared.Transducer.{Transducer}
 use Rattle.transducer.proofs.AlikeLaws.{alike-self}
-use Rattle.transducer.proofs.Facts.{valid-exactly}
-use Rattle.tablereader.proofs.Validity.{read-valid}
+use Rattle.tablereader.specs.Outcome as outcome
+use Rattle.tablereader.specs.Reader.{readOf}
+use Rattle.tablereader.specs.declared.Reading.{Reading}
+use Rattle.tablereader.proofs.Validity.{read-accepted}
 use Rattle.translator.specs.Numbers as translation
 use Rattle.translator.specs.Translated.{Translated}
 use Rattle.translator.specs.declared.Translation.{Translation}
@@ -28,10 +30,6 @@ use Rattle.engine.specs.Engine.{numberOf, Taken, tableOf, refusedJudgeme
 use Rattle.engine.specs.Engine.{refusedTranslation, fileTranslationOf, FileTranslated}
 use Rattle.engine.specs.declared.Judgement.{Judgement}
 use Rattle.engine.specs.declared.FileTranslation.{FileTranslation}
-
--- what is read of a file is valid
-pub table-valid : (f : List ℕ) → validOf (tableOf f) ≡ true
-table-valid f = valid-exactly _ .1 (read-valid f)
 
 -- a judgement that is not split comes from a verdict that is not
 pub single-verdict : (v : Verdict) → judgementOf v .split ≡ false → verdictOf (v .outcome) ≡ 0
@@ -49,17 +47,20 @@ module _ {f : List ℕ} where
   file-refused n e = record { refused = λ _. (e, refl); taken = λ t. absurd (n t) }
 
   -- the answer to a file that is taken is the translator's
-  pub file-translated : {input out₀ out : List ℕ} {q : FileTranslation} {v : Translation} → Taken f → Translated (tableOf f) input out₀ out v
-      → q ≡ fileTranslationOf v → FileTranslated f input out₀ out q
-  file-translated t h e = record { refused = λ n. absurd (n t); taken = λ _. record { translation = _; translated = h; answer = e } }
+  pub file-translated : {reading : Reading} {input out₀ out : List ℕ} {q : FileTranslation} {v : Translation} → reading ≡ readOf f
+      → outcome.numberOf (reading .outcome) ≡ 0 → Translated (reading .table) input out₀ out v → q ≡ fileTranslationOf v → FileTranslated f input out₀ out q
+  file-translated read t h e =
+      record { refused = λ n. absurd (n (rw read at t)); taken = λ _. record { translation = _; translated = rw read at h; answer = e } }
 
   -- a refused file leaves the five buffers
   pub file-unjudged : {b : Buffers} {r : Judgement} → numberOf f ≢ 0 → r ≡ refusedJudgement f → Judged f b b r
   file-unjudged n e = record { refused = λ _. (e, refl); taken = λ t. absurd (n t) }
 
   -- a file that is taken is judged by the functionality test
-  pub file-judged : {b b′ : Buffers} {r : Judgement} {v : Verdict} → Taken f → Decided (tableOf f) b b′ v → r ≡ judgementOf v → Judged f b b′ r
-  file-judged t h e = record { refused = λ n. absurd (n t); taken = λ _. record { verdict = _; decided = h; answer = e } }
+  pub file-judged : {reading : Reading} {b b′ : Buffers} {r : Judgement} {v : Verdict} → reading ≡ readOf f → outcome.numberOf (reading .outcome) ≡ 0
+      → Decided (reading .table) b b′ v → r ≡ judgementOf v → Judged f b b′ r
+  file-judged read t h e =
+      record { refused = λ n. absurd (n (rw read at t)); taken = λ _. record { verdict = _; decided = rw read at h; answer = e } }
 
 -- ---- what the contracts determine
 
@@ -112,8 +113,8 @@ module _ {f input out₀ out out′ : List ℕ} {q q′ : FileTranslation}
             (a .answer ∙ ap fileTranslationOf (same .0) ∙ sym (a′ .answer), same .1)
         go (no n) = (h .refused n .0 ∙ sym (h′ .refused n .0), h .refused n .1 ∙ sym (h′ .refused n .1))
 
-    -- any other refusal than 7 is given whatever the transducer is
-    pub file-refusal-determined : q .number ≢ 0 → q .number ≢ 7 → (q ≡ q′) × (out ≡ out′)
+    -- any other refusal than that of a short buffer is given whatever the transducer is
+    pub file-refusal-determined : q .number ≢ 0 → q .number ≢ tooShort → (q ≡ q′) × (out ≡ out′)
     file-refusal-determined n s = go (ℕ-discrete (numberOf f) 0)
       where
         go : Dec (numberOf f ≡ 0) → (q ≡ q′) × (out ≡ out′)
@@ -123,7 +124,7 @@ module _ {f input out₀ out out′ : List ℕ} {q q′ : FileTranslation}
             let k = ap (λ p. p .number) (a .answer) in
             let n₁ : translation.numberOf (a .translation) ≢ 0 = λ z. n (k ∙ z) in
             let same =
-            alike-refuses (alike-self (tableOf f)) (table-valid f) (table-valid f) (a .translated) (a′ .translated) n₁ (λ z. s (k ∙ z))
+            alike-refuses (alike-self (tableOf f)) (read-accepted f) (read-accepted f) (a .translated) (a′ .translated) n₁ (λ z. s (k ∙ z))
             in
             let n₂ : translation.numberOf (a′ .translation) ≢ 0 = λ z. n₁ (same ∙ z) in
             let size = refused-length (a .translation) n₁ ∙ sym (refused-length (a′ .translation) n₂) in (

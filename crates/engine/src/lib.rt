@@ -1,13 +1,7 @@
 // What a unit runs. `Demand3` of specs/Demand3.antt is demand 3, whole, as one statement about every file that the reader takes and all that
 // meets the contracts below; `demand-3` of proofs/Demand3.antt proves it. The contracts cite specs/Engine.antt.
-ghost use mathlib.Core.Path.{_≡_};
-ghost use Rattle.tablereader.specs.Outcome.{recordOf};
-ghost use Rattle.translator.specs.Numbers.{numberOf, lengthOf};
 ghost use Rattle.witness.specs.Showing.{buffersOf};
-ghost use Rattle.functionality.specs.Decided as verdict;
 ghost use Rattle.engine.specs.Engine.{Judged, FileTranslated};
-use tablereader::Outcome;
-use translator::Translation;
 use witness::Counts;
 
 // What became of a file that is judged: document 01's refusal number (0: none) and record number; whether the table is split; u; and how many
@@ -50,7 +44,7 @@ pub fn judge(
     if refusal != 0 {
         return Judgement {
             number: refusal as u16,
-            record: record_number(of_file),
+            record: of_file.record(),
             split: false,
             useful: 0,
             counts: Counts {
@@ -67,9 +61,9 @@ pub fn judge(
     let of_test = verdict.outcome;
     let counts = verdict.counts;
     Judgement {
-        number: verdict_number(of_test),
+        number: of_test.number() as u16,
         record: 0,
-        split: verdict_of(of_test) == 1,
+        split: of_test.verdict() == 1,
         useful: verdict.useful,
         counts,
     }
@@ -85,83 +79,15 @@ pub fn translate_file(text: &[u8], input: &[u8], out: &mut [u8]) -> FileTranslat
     if number != 0 {
         return FileTranslation {
             number: number as u16,
-            record: record_number(outcome),
+            record: outcome.record(),
             length: 0,
         };
     }
     let table = reading.table;
     let translation = translator::translate(table, input, out);
     FileTranslation {
-        number: translation_number(translation),
+        number: translation.number() as u16,
         record: 0,
-        length: translation_length(translation),
-    }
-}
-
-// The number of the record at which a file was refused.
-pub fn record_number(outcome: Outcome) -> u16
-    ensures { λ r. ⌜ r ≡ recordOf outcome ⌝ }
-{
-    match outcome {
-        Outcome::Taken => 0,
-        Outcome::Ended(at) => at,
-        Outcome::WrongByte(at) => at,
-        Outcome::NotANumber(at) => at,
-        Outcome::OutOfRange(at) => at,
-        Outcome::NotRising(at) => at,
-        Outcome::BytesFollow(at) => at,
-        Outcome::TooLong(at) => at,
-    }
-}
-
-// Document 01's number of a verdict, 0 where there is no refusal.
-fn verdict_number(outcome: functionality::Outcome) -> u16
-    ensures { λ r. ⌜ r ≡ verdict.numberOf outcome ⌝ }
-{
-    match outcome {
-        functionality::Outcome::Functional => 0,
-        functionality::Outcome::NotFunctional => 0,
-        functionality::Outcome::BufferTooShort => 7,
-        functionality::Outcome::Invalid => 8,
-    }
-}
-
-// Document 01's verdict: 0 is single, 1 is split; 0 with a refusal.
-fn verdict_of(outcome: functionality::Outcome) -> u8
-    ensures { λ r. ⌜ r ≡ verdict.verdictOf outcome ⌝ }
-{
-    match outcome {
-        functionality::Outcome::Functional => 0,
-        functionality::Outcome::NotFunctional => 1,
-        functionality::Outcome::BufferTooShort => 0,
-        functionality::Outcome::Invalid => 0,
-    }
-}
-
-// Document 01's number of a translation, 0 where there is no refusal.
-fn translation_number(translation: Translation) -> u16
-    ensures { λ r. ⌜ r ≡ numberOf translation ⌝ }
-{
-    match translation {
-        Translation::Written(_) => 0,
-        Translation::BufferTooShort => 7,
-        Translation::Invalid => 8,
-        Translation::WordTooLong => 9,
-        Translation::NoInputCode => 10,
-        Translation::Unread => 11,
-    }
-}
-
-// How many codes a translation wrote, 0 with a refusal.
-fn translation_length(translation: Translation) -> usize
-    ensures { λ r. ⌜ r ≡ lengthOf translation ⌝ }
-{
-    match translation {
-        Translation::Written(length) => length,
-        Translation::BufferTooShort => 0,
-        Translation::Invalid => 0,
-        Translation::WordTooLong => 0,
-        Translation::NoInputCode => 0,
-        Translation::Unread => 0,
+        length: translation.length(),
     }
 }

@@ -8,7 +8,7 @@ use lib.ListN.{length, length-append}
 use Rattle.transducer.specs.Valid.{Valid}
 use Rattle.transducer.specs.Walks.{Step}
 use Rattle.transducer.specs.declared.Transducer.{Transducer}
-use Rattle.transducer.proofs.Facts.{valid-exactly}
+use Rattle.transducer.proofs.AcceptedLaws.{accepted-valid}
 use Rattle.transducer.proofs.MoveLaws.{move-walk}
 use Rattle.transducer.proofs.WalkLaws.{leaves-step}
 use Rattle.product.specs.Numbers.{mostPairs, firstOf, secondOf, stepOf, PairIn, Moves}
@@ -25,7 +25,7 @@ use Rattle.equations.proofs.WayLaws.{walk-append, way-follows, way-shor
 
 module _ {t : Transducer} {r : UsefulPairs} {out out-step : List ℕ} (standing : Standing t r out out-step) where
   pub valid : Valid t
-  valid = valid-exactly t .0 (standing .valid)
+  valid = accepted-valid t (standing .valid)
 
   pub few : r .count ≤ mostPairs
   few = few-useful (standing .valid) (standing .ways)

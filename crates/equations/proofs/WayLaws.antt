@@ -7,7 +7,7 @@ use native.Mathlib.Omega.{arith}
 use lib.ListN.{getD}
 use Rattle.transducer.specs.Limits.{mostStates}
 use Rattle.transducer.specs.StateSet.{In}
-use Rattle.transducer.specs.Valid.{validOf}
+use Rattle.transducer.specs.Accepted.{acceptedOf}
 use Rattle.transducer.specs.Useful.{UsefulPair}
 use Rattle.transducer.specs.Walks.{Step, Reaches, Leaves}
 use Rattle.transducer.specs.declared.StateSet.{StateSet}
@@ -102,7 +102,7 @@ module _ {t : Transducer} {link step : List ℕ} {u : ℕ} where
 
 -- ---- the ways of the equations
 
-module _ {t : Transducer} {r : UsefulPairs} {out out-step : List ℕ} (valid : validOf t ≡ true)
+module _ {t : Transducer} {r : UsefulPairs} {out out-step : List ℕ} (valid : acceptedOf t ≡ true)
     (ways : WaysOut t r out out-step) where
   -- the states of a useful pair are below 32, so its number is below 1,024
   states-low : (p q : ℕ) → UsefulPair t p q → (p < mostStates) × (q < mostStates)

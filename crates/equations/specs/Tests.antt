@@ -6,7 +6,7 @@ use mathlib.Core.List.{List, [], _∷_, _++_}
 use mathlib.Core.Logic.{_≢_}
 use Prim.Native.Nat.{ℕ, _+_, _*_, _-_, _≤_, _<_}
 use lib.ListN.{length, take, drop, getD}
-use Rattle.transducer.specs.Valid.{validOf}
+use Rattle.transducer.specs.Accepted.{acceptedOf}
 use Rattle.transducer.specs.Paths.{Functional}
 use Rattle.transducer.specs.Walks.{Step}
 use Rattle.transducer.specs.declared.StateSet.{StateSet}
@@ -34,7 +34,7 @@ uneven = noStep + 1
 
 -- what the tests rely on: a transducer that keeps the rules, and the ways out of its useful pairs
 pub record Standing (t : Transducer) (r : UsefulPairs) (out out-step : List ℕ) : Type 0 where
-  pub valid : validOf t ≡ true
+  pub valid : acceptedOf t ≡ true
   pub ways : WaysOut t r out out-step
   pub long-out : length out ≡ mostPairs
   pub long-out-step : length out-step ≡ mostPairs

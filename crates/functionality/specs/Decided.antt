@@ -6,7 +6,8 @@ use Prim.Native.Nat.{ℕ, _-_, _*_}
 use lib.Dec.{leb}
 use lib.ListN.{length}
 use Rattle.transducer.specs.Limits.{mostOutputs}
-use Rattle.transducer.specs.Valid.{validOf}
+use Rattle.transducer.specs.Accepted.{acceptedOf}
+use Rattle.transducer.specs.Refusals.{tooShort, invalid}
 use Rattle.transducer.specs.Paths.{Functional}
 use Rattle.transducer.specs.Useful.{UsefulPair}
 use Rattle.transducer.specs.declared.Transducer.{Transducer}
@@ -31,16 +32,16 @@ longEnough w a b x y =
 abbrev pub fullOf : Buffers → Bool
 fullOf b = longEnough (length (b .word)) (length (b .path-a)) (length (b .path-b)) (length (b .output-x)) (length (b .output-y))
 
--- the refusal: 8 for a transducer that breaks a rule, then 7 for a buffer below its size; 0 where there is none
+-- the refusal: of a transducer that is not accepted, then of a buffer below its size; 0 where there is none
 unfoldable pub refusalOf : Transducer → Buffers → ℕ
-refusalOf t b = cond (validOf t) (cond (fullOf b) 0 7) 8
+refusalOf t b = cond (acceptedOf t) (cond (fullOf b) 0 tooShort) invalid
 
 -- document 01's number of an outcome; 0 is no refusal
 abbrev pub numberOf : Outcome → ℕ
 numberOf Single = 0
 numberOf Split = 0
-numberOf BufferTooShort = 7
-numberOf Invalid = 8
+numberOf BufferTooShort = tooShort
+numberOf Invalid = invalid
 
 -- ---- the verdict
 
@@ -68,7 +69,7 @@ quietVerdict o u = record { outcome = o; useful = u; counts = noCounts }
 
 -- from the transducer t and buffers that hold b the verdict is r, and the buffers are left with b′
 pub record Decided (t : Transducer) (b b′ : Buffers) (r : Verdict) : Type 0 where
-  -- 8 and 7 are given where the definition says so, and only there
+  -- a refusal is given where the definition says so, and only there
   pub number : numberOf (r .outcome) ≡ refusalOf t b
   -- with a refusal u is 0
   pub refused : refusalOf t b ≢ 0 → r .useful ≡ 0

@@ -2,11 +2,11 @@
 // `Decided` of specs/Decided.antt. What is tested, and why it is enough, is in the crate `equations`.
 ghost use mathlib.Core.Path.{_≡_};
 ghost use mathlib.Core.Bool.{false, true};
-ghost use Rattle.transducer.specs.Valid.{validOf};
+ghost use Rattle.transducer.specs.Accepted.{acceptedOf};
 ghost use Rattle.product.specs.Machine.{ImageOf};
 ghost use Rattle.witness.specs.Showing.{buffersOf};
 ghost use Rattle.equations.specs.Tests.{Standing, Differing};
-ghost use Rattle.functionality.specs.Decided.{fullOf, longEnough, quietVerdict, Decided};
+ghost use Rattle.functionality.specs.Decided.{fullOf, longEnough, numberOf, verdictOf, quietVerdict, Decided};
 use equations::FINE;
 use equations::Failure;
 use pairs::UsefulPairs;
@@ -14,7 +14,7 @@ use product::machine;
 use product::machine::PLACES;
 use product::steps::PAIRS;
 use transducer::Transducer;
-use transducer::validity;
+use transducer::refusals;
 use witness::CODES;
 use witness::Counts;
 use witness::STEPS;
@@ -25,6 +25,32 @@ pub enum Outcome {
     NotFunctional,
     BufferTooShort,
     Invalid,
+}
+
+impl Outcome {
+    // Document 01's number of the outcome, 0 where nothing is refused.
+    pub fn number(self) -> u8
+        ensures { λ r. ⌜ r ≡ numberOf self ⌝ }
+    {
+        match self {
+            Outcome::Functional => 0,
+            Outcome::NotFunctional => 0,
+            Outcome::BufferTooShort => refusals::TOO_SHORT,
+            Outcome::Invalid => refusals::INVALID,
+        }
+    }
+
+    // Document 01's verdict: 0 is single, 1 is split; 0 with a refusal.
+    pub fn verdict(self) -> u8
+        ensures { λ r. ⌜ r ≡ verdictOf self ⌝ }
+    {
+        match self {
+            Outcome::Functional => 0,
+            Outcome::NotFunctional => 1,
+            Outcome::BufferTooShort => 0,
+            Outcome::Invalid => 0,
+        }
+    }
 }
 
 // The outcome; how many useful pairs there are (document 01: u); and how many items of a witness stand in each buffer, none unless the
@@ -52,7 +78,7 @@ pub fn decide(
         r
         ⌝ }
 {
-    if !validity::valid(t) {
+    if !transducer::accepted(t) {
         return quiet(Outcome::Invalid, 0);
     }
     if !full(
@@ -104,7 +130,7 @@ fn examine(
     output_x: &mut [u8],
     output_y: &mut [u8],
 ) -> Verdict
-    requires { ⌜ validOf t ≡ true ⌝ }
+    requires { ⌜ acceptedOf t ≡ true ⌝ }
     requires { ⌜ fullOf (buffersOf (now word) (now «path_a») (now «path_b») (now «output_x») (now «output_y»)) ≡ true ⌝ }
     ensures { λ r. ⌜
         Decided t

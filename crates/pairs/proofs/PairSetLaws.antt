@@ -15,12 +15,13 @@ use lib.ListN.{length, getD, set, replicate, length-set, length-map, length-repl
 use lib.Seq.{getD-set-same, getD-set-other, ext-getD}
 use Rattle.worklist.specs.Lists.{Worklist, Found, zeros}
 use Rattle.transducer.specs.Limits.{mostStates}
-use Rattle.transducer.specs.Valid.{Valid, validOf}
+use Rattle.transducer.specs.Valid.{Valid}
+use Rattle.transducer.specs.Accepted.{acceptedOf}
 use Rattle.transducer.specs.Alike.{Alike}
 use Rattle.transducer.specs.declared.StateSet.{StateSet}
 use Rattle.transducer.specs.declared.Transducer.{Transducer}
 use Rattle.transducer.proofs.Bools.{and-left, and-right, same-flag}
-use Rattle.transducer.proofs.Facts.{valid-exactly}
+use Rattle.transducer.proofs.AcceptedLaws.{accepted-valid}
 use Rattle.transducer.proofs.AlikeLaws.{alike-useful-pair}
 use Rattle.product.specs.Confined.{Allowed}
 use Rattle.product.specs.Numbers.{mostPairs, pairOf, firstOf, secondOf}
@@ -89,28 +90,28 @@ not-valid : {A : Type 0} {b : Bool} → b ≡ true → b ≡ false → A
 not-valid p q = let z : _≡_ {A = ℕ} 0 1 = cc in absurd (omega arith)
 
 -- the answer of a search that has found exactly the useful pairs
-pub answer : {t : Transducer} {ends : StateSet} {Leads : ℕ → ℕ → ℕ → Type 0} {s : Worklist} → Valid t → Tree t ends Leads s
+pub answer : {t : Transducer} {ends : StateSet} {Leads : ℕ → ℕ → ℕ → Type 0} {s : Worklist} → acceptedOf t ≡ true → Tree t ends Leads s
     → UsefulPairsOf t (record { outcome = Outcome.Found; set = pairsOf (s .rank); count = s .count })
 unfolding pairsOf
-answer {t} {s = s} valid tree =
+answer {t} {s = s} accepted tree =
     record {
-      number = rw (valid-exactly t .1 valid);
+      number = rw accepted;
       members = λ _ p q. (
         λ h. let low = pair-low (pairsOf (s .rank)) p q h in
             rw (pair-first p q (low .1), pair-second p q (low .1)) at
             (tree .found (pairOf p q) .0
             (ltb-true _ _ (sym (pairs-of (s .rank) (pairOf p q)) ∙ sym (has-pair (pairsOf (s .rank)) p q (low .0) (low .1)) ∙ h))),
-        λ u. let low = useful-low valid u in
+        λ u. let low = useful-low (accepted-valid t accepted) u in
             has-pair (pairsOf (s .rank)) p q (low .0) (low .1) ∙ pairs-of (s .rank) (pairOf p q)
             ∙ lt-ltb _ _ (tree .found (pairOf p q) .1 (rw (pair-first p q (low .1), pair-second p q (low .1)) u)),
       );
-      refused = not-valid (valid-exactly t .1 valid);
+      refused = not-valid accepted;
       counted = omega (arith, count-zeros (s .rank), tree .grown .sized .room);
       long = length-map (s .rank) (ltb 0) ∙ tree .grown .size;
     }
 
 -- the answer to a transducer that breaks a rule
-pub refusal : {t : Transducer} → validOf t ≡ false → UsefulPairsOf t (record { outcome = Outcome.Invalid; set = noPairs; count = 0 })
+pub refusal : {t : Transducer} → acceptedOf t ≡ false → UsefulPairsOf t (record { outcome = Outcome.Invalid; set = noPairs; count = 0 })
 unfolding noPairs
 refusal invalid =
     record {
@@ -136,9 +137,9 @@ useful-pairs-determined {t} {r} {r′} a a′ =
     outcomes Outcome.Invalid Outcome.Invalid e = refl
 
     sets : r .set ≡ r′ .set
-    sets = go (validOf t) refl
+    sets = go (acceptedOf t) refl
       where
-        go : (b : Bool) → validOf t ≡ b → r .set ≡ r′ .set
+        go : (b : Bool) → acceptedOf t ≡ b → r .set ≡ r′ .set
         go true e =
             same-pairs (r .set) (r′ .set) (a .long) (a′ .long)
             (λ p q. same-flag _ _ (λ h. a′ .members e p q .1 (a .members e p q .0 h)) (λ h. a .members e p q .1 (a′ .members e p q .0 h)))
@@ -149,12 +150,12 @@ pub at-most-pairs : {t : Transducer} {r : UsefulPairs} → UsefulPairsOf t r →
 at-most-pairs {r = r} a = omega (arith, a .counted, count-most (r .set .member), a .long)
 
 -- a refusal comes with none
-pub none-refused : {t : Transducer} {r : UsefulPairs} → UsefulPairsOf t r → validOf t ≡ false → r .count ≡ 0
+pub none-refused : {t : Transducer} {r : UsefulPairs} → UsefulPairsOf t r → acceptedOf t ≡ false → r .count ≡ 0
 unfolding noPairs
 none-refused a invalid = a .counted ∙ ap (λ s. countTrue (s .member)) (a .refused invalid) ∙ count-none mostPairs
 
 -- transducers that keep the rules and are equal up to order have the same answer
-pub alike-useful-pairs : {t t′ : Transducer} {r r′ : UsefulPairs} → Alike t t′ → validOf t ≡ true → validOf t′ ≡ true
+pub alike-useful-pairs : {t t′ : Transducer} {r r′ : UsefulPairs} → Alike t t′ → acceptedOf t ≡ true → acceptedOf t′ ≡ true
     → UsefulPairsOf t r → UsefulPairsOf t′ r′ → r ≡ r′
 alike-useful-pairs alike valid valid′ a a′ =
     useful-pairs-determined
@@ -193,24 +194,24 @@ marked-states {n} few m p q h k =
     omega (arith, simp (pair-first p q low, pair-second p q low, lt-ltb p n h, lt-ltb q n k) at e)
 
 -- the numbers that stand for the set of the useful pairs allow exactly these
-pub marked-useful : {t : Transducer} {r : UsefulPairs} {numbers : List ℕ} → Valid t → UsefulPairsOf t r → Marked (isMember (r .set)) numbers mostPairs
+pub marked-useful : {t : Transducer} {r : UsefulPairs} {numbers : List ℕ} → acceptedOf t ≡ true → UsefulPairsOf t r → Marked (isMember (r .set)) numbers mostPairs
     → (v : ℕ) → Allowed numbers v ↔ Useful t v
-marked-useful {t} {r} {numbers} valid a m v = go (decLt v mostPairs)
+marked-useful {t} {r} {numbers} accepted a m v = go (decLt v mostPairs)
   where
     -- the number of a pair says whether it is in the set
     by-flag : v < mostPairs → (b : Bool) → getD (r .set .member) v false ≡ b → Allowed numbers v ↔ Useful t v
     by-flag h true e = (
-      λ i. a .members (valid-exactly t .1 valid) (firstOf v) (secondOf v) .0 (sym (pair-flag (r .set) v h) ∙ e),
+      λ i. a .members accepted (firstOf v) (secondOf v) .0 (sym (pair-flag (r .set) v h) ∙ e),
       λ u. omega (arith, m .tested v h ∙ ap (λ b. cond b 1 0) e),
     )
     by-flag h false e = (
       λ i. absurd (omega (arith, m .tested v h ∙ ap (λ b. cond b 1 0) e)),
-      λ u. not-valid (pair-flag (r .set) v h ∙ a .members (valid-exactly t .1 valid) (firstOf v) (secondOf v) .1 u) e,
+      λ u. not-valid (pair-flag (r .set) v h ∙ a .members accepted (firstOf v) (secondOf v) .1 u) e,
     )
 
     go : Dec (v < mostPairs) → Allowed numbers v ↔ Useful t v
     go (yes h) = by-flag h (getD (r .set .member) v false) refl
     go (no h) = (
       λ i. absurd (omega (arith, List·getD-eq-default numbers 0 {n = v} (omega (arith, m .long)))),
-      λ u. absurd (let low = useful-low valid u in omega arith),
+      λ u. absurd (let low = useful-low (accepted-valid t accepted) u in omega arith),
     )

@@ -7,7 +7,8 @@ use Prim.Native.Nat.{ℕ, suc}
 use lib.Dec.{ltb}
 use lib.ListN.{length, getD, replicate}
 use Rattle.transducer.specs.Limits.{mostStates}
-use Rattle.transducer.specs.Valid.{validOf}
+use Rattle.transducer.specs.Refusals.{invalid}
+use Rattle.transducer.specs.Accepted.{acceptedOf}
 use Rattle.transducer.specs.Useful.{UsefulPair}
 use Rattle.transducer.specs.declared.Transducer.{Transducer}
 use Rattle.product.specs.Numbers.{mostPairs, pairOf}
@@ -41,13 +42,13 @@ countTrue (false ∷ l) = countTrue l
 -- document 01's number of an outcome, 0 where there is none
 abbrev pub numberOf : Outcome → ℕ
 numberOf Found = 0
-numberOf Invalid = 8
+numberOf Invalid = invalid
 
--- what `useful_pairs` answers: refusal 8 exactly where the transducer breaks a rule, and then the empty set; else the set of the useful pairs;
+-- what `useful_pairs` answers: a refusal exactly where the transducer is not accepted, and then the empty set; else the set of the useful pairs;
 -- and how many are in the set (document 01: u)
 pub record UsefulPairsOf (t : Transducer) (r : UsefulPairs) : Type 0 where
-  pub number : numberOf (r .outcome) ≡ cond (validOf t) 0 8
-  pub members : validOf t ≡ true → (p q : ℕ) → (hasPair (r .set) p q ≡ true) ↔ UsefulPair t p q
-  pub refused : validOf t ≡ false → r .set ≡ noPairs
+  pub number : numberOf (r .outcome) ≡ cond (acceptedOf t) 0 invalid
+  pub members : acceptedOf t ≡ true → (p q : ℕ) → (hasPair (r .set) p q ≡ true) ↔ UsefulPair t p q
+  pub refused : acceptedOf t ≡ false → r .set ≡ noPairs
   pub counted : r .count ≡ countTrue (r .set .member)
   pub long : length (r .set .member) ≡ mostPairs

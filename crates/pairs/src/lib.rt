@@ -1,17 +1,18 @@
 // Useful pairs of states (document 01, "Useful states and useful pairs"), and the ways into and out of them. The contracts cite
 // specs/UsefulPairs.antt: `UsefulPairsOf`, what `useful_pairs` answers; and specs/Ways.antt: `WaysOut`,
 // `Discovered` and `WayIn`, what `ways_out` and `ways_in` leave.
-ghost use mathlib.Core.Bool.{false, cond};
+ghost use mathlib.Core.Bool.{true, false, cond};
 ghost use mathlib.Core.Path.{_≡_};
 ghost use Prim.Native.Nat.{_-_, _≤_, _<_};
 ghost use lib.ListN.{length, getD};
 ghost use Rattle.worklist.specs.Lists.{lists};
 ghost use Rattle.worklist.specs.Search.{Blank};
 ghost use Rattle.transducer.specs.Valid.{Valid};
+ghost use Rattle.transducer.specs.Accepted.{acceptedOf};
 ghost use Rattle.transducer.specs.Reversal.{reversedOf};
 ghost use Rattle.product.specs.Machine.{ImageOf};
 ghost use Rattle.product.specs.Numbers.{mostPairs};
-ghost use Rattle.pairs.specs.UsefulPairs.{hasPair, isMember, noPairs, pairsOf, UsefulPairsOf};
+ghost use Rattle.pairs.specs.UsefulPairs.{hasPair, isMember, noPairs, pairsOf, numberOf, UsefulPairsOf};
 ghost use Rattle.pairs.specs.Ways.{MovesBack, Tree, WaysOut, Discovered, WayIn, linkOf, Traced, Linked, bothBelow, Marked};
 use product::machine;
 use product::machine::PLACES;
@@ -19,14 +20,14 @@ use product::search;
 use product::steps::PAIRS;
 use transducer::Transducer;
 use transducer::limits;
-use transducer::validity;
+use transducer::refusals;
 
 // A set of pairs: member[32 p + q] says whether (p, q) is in it.
 pub struct PairSet {
     pub member: [bool; PAIRS],
 }
 
-// Found, or document 01's refusal 8.
+// Found, or the refusal of a value that is not accepted.
 pub enum Outcome {
     Found,
     Invalid,
@@ -37,6 +38,18 @@ pub struct UsefulPairs {
     pub outcome: Outcome,
     pub set: PairSet,
     pub count: u16,
+}
+
+impl Outcome {
+    // Document 01's number of the outcome, 0 where nothing is refused.
+    pub fn number(self) -> u8
+        ensures { λ r. ⌜ r ≡ numberOf self ⌝ }
+    {
+        match self {
+            Outcome::Found => 0,
+            Outcome::Invalid => refusals::INVALID,
+        }
+    }
 }
 
 impl PairSet {
@@ -64,11 +77,11 @@ impl PairSet {
     }
 }
 
-// The useful pairs of t; of a transducer that breaks a rule none, with refusal 8.
+// The useful pairs of t; of a transducer that is not accepted none, with a refusal.
 pub fn useful_pairs(t: Transducer) -> UsefulPairs
     ensures { λ r. ⌜ UsefulPairsOf t r ⌝ }
 {
-    if !validity::valid(t) {
+    if !transducer::accepted(t) {
         let none = PairSet::empty();
         return UsefulPairs {
             outcome: Outcome::Invalid,
@@ -84,7 +97,7 @@ pub fn useful_pairs(t: Transducer) -> UsefulPairs
     ways_out(t, &m, &mut out, &mut out_step, &mut order)
 }
 
-// The useful pairs of t, which keeps the rules and whose machine is m, and for each a way out, as links: at a useful pair i, out[i] is 0 where i is a
+// The useful pairs of t, which is accepted and whose machine is m, and for each a way out, as links: at a useful pair i, out[i] is 0 where i is a
 // pair of final states, else 1 + the pair after it, and out_step[i] the label of the step from i to there. `order` has the useful pairs in the order
 // in which they were found: each after the one to which its link leads.
 pub fn ways_out(
@@ -94,7 +107,7 @@ pub fn ways_out(
     out_step: &mut [u32],
     order: &mut [u32],
 ) -> UsefulPairs
-    requires { ⌜ Valid t ⌝ }
+    requires { ⌜ acceptedOf t ≡ true ⌝ }
     requires { ⌜ ImageOf t false (now m) ⌝ }
     requires { ⌜ length (now out) ≡ mostPairs ⌝ }
     requires { ⌜ length (now «out_step») ≡ mostPairs ⌝ }
@@ -126,7 +139,7 @@ pub fn ways_in(
     into: &mut [u16],
     into_step: &mut [u32],
 )
-    requires { ⌜ Valid t ⌝ }
+    requires { ⌜ acceptedOf t ≡ true ⌝ }
     requires { ⌜ ImageOf t false (now m) ⌝ }
     requires { ⌜ UsefulPairsOf t pairs ⌝ }
     requires { ⌜ length (now into) ≡ mostPairs ⌝ }

@@ -3,6 +3,7 @@
 ghost use mathlib.Core.Path.{_≡_};
 ghost use Rattle.records.specs.Byte.{byteFault};
 ghost use Rattle.records.specs.Field.{columnOf, addColumn, Under, fieldOfPart, fieldOf};
+use transducer::refusals;
 
 // What one byte of a field is.
 pub enum Column {
@@ -46,14 +47,18 @@ pub fn field_at(text: &[u8], at: usize) -> Field
     field_of_part(four)
 }
 
-// The refusal's number of a byte that must stand at a place: 0 where it does, 1 where the text has ended, else 2.
+// The refusal's number of a byte that must stand at a place: 0 where it does, else whether the text has ended or another byte stands there.
 pub fn byte_fault(text: &[u8], at: usize, b: u8) -> u8
     ensures { λ r. ⌜ r ≡ byteFault (now (text .entry)) at b ⌝ }
 {
     if text.len() <= at {
-        return 1;
+        return refusals::ENDED;
     }
-    if text[at] == b { 0 } else { 2 }
+    if text[at] == b {
+        0
+    } else {
+        refusals::WRONG_BYTE
+    }
 }
 
 // What a byte of a field is: a space, a digit or a fault.

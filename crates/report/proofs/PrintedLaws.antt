@@ -23,10 +23,11 @@ use Rattle.functionality.specs.Decided.{longEnough, fullOf, refusalOf, verdictO
 use Rattle.functionality.specs.declared.Verdict.{Verdict}
 use Rattle.functionality.proofs.VerdictLaws.{refusal-none}
 use Rattle.functionality.proofs.DecidedLaws.{zero-or-one}
+use Rattle.tablereader.proofs.Validity.{read-accepted}
 use Rattle.engine.specs.Engine.{numberOf, Taken, tableOf, judgementOf, Judged, fileTranslationOf, FileTranslated}
 use Rattle.engine.specs.declared.Judgement.{Judgement}
 use Rattle.engine.specs.declared.FileTranslation.{FileTranslation}
-use Rattle.engine.proofs.EngineLaws.{table-valid, judged-determined, file-translated-determined}
+use Rattle.engine.proofs.EngineLaws.{judged-determined, file-translated-determined}
 use Rattle.listing.specs.Listing.{mostTranslated}
 use Rattle.report.specs.Report.{lent, judgementListing, VerdictReport, lentOutput, answerListing, TranslationReport}
 use Rattle.report.specs.Printed.{VerdictPrinted, TranslationPrinted}
@@ -45,7 +46,7 @@ module _ {f : List ℕ} {b : Buffers} where
   decided-printed {v} t d = go (zero-or-one (v .outcome))
     where
       taken : refusalOf (tableOf f) lent ≡ 0
-      taken = refusal-none (tableOf f) lent (table-valid f) lent-full
+      taken = refusal-none (tableOf f) lent (read-accepted f) lent-full
 
       go : (verdictOf (v .outcome) ≡ 0) ⊎ (verdictOf (v .outcome) ≡ 1) → VerdictPrinted f (judgementListing (judgementOf v) b)
       go (inl e) =
@@ -124,7 +125,7 @@ functional-single {f} {r = r} functional h = go (ℕ-discrete (numberOf f) 0)
     go : Dec (numberOf f ≡ 0) → r .split ≡ false
     go (yes t) =
         let d = h .taken t .decided in
-        let single = d .single (refusal-none (tableOf f) lent (table-valid f) lent-full) .1 (functional t) in
+        let single = d .single (refusal-none (tableOf f) lent (read-accepted f) lent-full) .1 (functional t) in
         ap (λ r. r .split) (h .taken t .answer) ∙ rw single
     go (no n) = ap (λ r. r .split) (h .refused n .0)
 

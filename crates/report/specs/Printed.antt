@@ -5,6 +5,7 @@ use mathlib.Core.Bool.{true, false}
 use mathlib.Core.List.{List, []}
 use mathlib.Core.Logic.{_≢_}
 use Prim.Native.Nat.{ℕ, _-_, _*_}
+use Rattle.transducer.specs.Refusals as refusal
 use Rattle.transducer.specs.Transition.{OutputWord, wordOf, bytesOf}
 use Rattle.transducer.specs.Paths.{Relates, Functional}
 use Rattle.translator.specs.Words.{refusalOf}
@@ -31,7 +32,7 @@ pub data TranslationPrinted (f input listing : List ℕ) : Type 0 where
   -- a refused word: 9 or 10
   unfit : Taken f → refusalOf (tableOf f) input ≢ 0 → listing ≡ refusalListing (refusalOf (tableOf f) input) 0 → TranslationPrinted f input listing
   -- a word that no accepting path reads: 11
-  unread : Taken f → refusalOf (tableOf f) input ≡ 0 → ((y : OutputWord) → Relates (tableOf f) (wordOf input) y → ⊥) → listing ≡ refusalListing 11 0
+  unread : Taken f → refusalOf (tableOf f) input ≡ 0 → ((y : OutputWord) → Relates (tableOf f) (wordOf input) y → ⊥) → listing ≡ refusalListing refusal.unread 0
       → TranslationPrinted f input listing
   -- any other: an output of the word; never 7
   written : {y : OutputWord} → Taken f → refusalOf (tableOf f) input ≡ 0 → Relates (tableOf f) (wordOf input) y

@@ -9,15 +9,15 @@ use lib.Dec.{leb}
 use lib.ListN.{length, take, drop}
 use lib.Seq.{take-at}
 use Rattle.words.specs.Put.{put}
-use Rattle.transducer.specs.Valid.{validOf}
+use Rattle.transducer.specs.Accepted.{acceptedOf}
+use Rattle.transducer.specs.Refusals.{tooShort, invalid}
 use Rattle.transducer.specs.declared.Transducer.{Transducer}
-use Rattle.transducer.proofs.Facts.{valid-exactly}
 use Rattle.tablereader.specs.Reader.{readOf}
 use Rattle.tablereader.specs.declared.Outcome.the-variants.{Taken}
 use Rattle.tablereader.specs.declared.Reading.{Reading}
-use Rattle.tablereader.proofs.Validity.{read-valid}
+use Rattle.tablereader.proofs.Validity.{read-accepted}
 use Rattle.tablewriter.specs.File.{writeOf}
-use Rattle.tablewriter.specs.Writing.{invalid, tooShort, numberOf, lengthOf, inCase, Wrote}
+use Rattle.tablewriter.specs.Writing.{numberOf, lengthOf, inCase, Wrote}
 use Rattle.tablewriter.specs.declared.Writing.{Writing}
 use Rattle.tablefile.specs.RoundTrips.{takenAs, WritesFile}
 use Rattle.tablefile.proofs.ReadWritten.{read-written}
@@ -29,14 +29,14 @@ unfolding put
 put-front before f = take-at f (drop (0 + length f) before) (length f) refl
 
 -- the third case of a writing
-module _ (t : Transducer) (before : List ℕ) (v : validOf t ≡ true) (room : length (writeOf t) ≤ length before) where
+module _ (t : Transducer) (before : List ℕ) (v : acceptedOf t ≡ true) (room : length (writeOf t) ≤ length before) where
   in-case : {A : Type 0} (broken short file : A) → inCase t before broken short file ≡ file
   unfolding inCase
   in-case broken short file = rw (v, le-leb (length (writeOf t)) (length before) room)
 
 module _ {t : Transducer} {before after : List ℕ} {w : Writing} (wrote : Wrote t before after w) where
   -- where the transducer keeps the rules and the buffer has room, the file is written
-  written : validOf t ≡ true → length (writeOf t) ≤ length before → WritesFile (writeOf t) before after w
+  written : acceptedOf t ≡ true → length (writeOf t) ≤ length before → WritesFile (writeOf t) before after w
   written v room =
       let buffer = wrote .buffer ∙ in-case t before v room before before (put before 0 (writeOf t)) in
       record {
@@ -47,12 +47,12 @@ module _ {t : Transducer} {before after : List ℕ} {w : Writing} (wrote : Wrote
       }
 
   -- and an answer that is no refusal says that it does and has
-  not-refused : numberOf w ≡ 0 → (validOf t ≡ true) × (length (writeOf t) ≤ length before)
+  not-refused : numberOf w ≡ 0 → (acceptedOf t ≡ true) × (length (writeOf t) ≤ length before)
   unfolding inCase
-  not-refused z = go (validOf t) (leb (length (writeOf t)) (length before)) refl refl (sym (wrote .number) ∙ z)
+  not-refused z = go (acceptedOf t) (leb (length (writeOf t)) (length before)) refl refl (sym (wrote .number) ∙ z)
     where
-      go : (x y : Bool) → validOf t ≡ x → leb (length (writeOf t)) (length before) ≡ y → cond x (cond y 0 tooShort) invalid ≡ 0
-          → (validOf t ≡ true) × (length (writeOf t) ≤ length before)
+      go : (x y : Bool) → acceptedOf t ≡ x → leb (length (writeOf t)) (length before) ≡ y → cond x (cond y 0 tooShort) invalid ≡ 0
+          → (acceptedOf t ≡ true) × (length (writeOf t) ≤ length before)
       go true true v room e = (v, leb-true _ _ room)
       go true false v room e = absurd (omega arith)
       go false y v room e = absurd (omega arith)
@@ -70,5 +70,5 @@ pub read-then-write : (f before after : List ℕ) (r : Reading) (w : Writing) �
     → length f ≤ length before → WritesFile f before after w
 read-then-write f before after r w e taken wrote room =
     let same : writeOf (r .table) ≡ f = rw e (written-read f (rw e at taken)) in
-    let valid : validOf (r .table) ≡ true = rw e (valid-exactly (readOf f .table) .1 (read-valid f)) in
+    let valid : acceptedOf (r .table) ≡ true = rw e (read-accepted f) in
     rw same at (written wrote valid (rw same room))

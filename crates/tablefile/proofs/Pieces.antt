@@ -19,7 +19,7 @@ use Rattle.records.specs.declared.field.Field.{Field}
 use Rattle.records.specs.declared.field.Field.the-variants.{Value, Ended, NotANumber}
 use Rattle.records.proofs.Columns.{length-columns}
 use Rattle.records.proofs.RoundTrip.{field-there, field-unique}
-use Rattle.tablereader.specs.Outcome.{outOfRange}
+use Rattle.transducer.specs.Refusals.{outOfRange}
 use Rattle.tablereader.specs.Record.{firstOf, inRange, numberAt}
 use Rattle.tablereader.specs.declared.record.Number.{Number}
 use Rattle.tablewriter.specs.File.{fieldsOf, recordBytes}

@@ -12,11 +12,12 @@ use Rattle.transducer.specs.Limits.{mostStates, mostTransitions, mostOutputs}
 use Rattle.transducer.specs.StateSet.{In, noStates}
 use Rattle.transducer.specs.Transition.{outside, at, outputAt, firsts}
 use Rattle.transducer.specs.Blank.{clearTransition, blankTransducer}
-use Rattle.transducer.specs.Valid.{Clear, Valid, Shaped, validOf}
+use Rattle.transducer.specs.Valid.{Clear, Valid, Shaped}
+use Rattle.transducer.specs.Accepted.{acceptedOf}
 use Rattle.transducer.specs.declared.StateSet.{StateSet}
 use Rattle.transducer.specs.declared.Transition.{Transition}
 use Rattle.transducer.specs.declared.Transducer.{Transducer}
-use Rattle.transducer.proofs.Facts.{valid-exactly}
+use Rattle.transducer.proofs.AcceptedLaws.{accepted-valid}
 use Rattle.transducer.proofs.SizeLaws.{length-firsts}
 use Rattle.tablereader.specs.Outcome.{outcomeOf, _▸_}
 use Rattle.tablereader.specs.Record.{headerSize, stateSize}
@@ -145,5 +146,5 @@ module _ (t : Transducer) (v : Valid t) (s : Shaped t) (text : List ℕ) (is : t
   text-read = rw (header .read, outcome-taken, table-same)
 
 -- reading a written table gives that table
-pub read-written : (t : Transducer) → validOf t ≡ true → Shaped t → readOf (writeOf t) ≡ record { outcome = Taken; table = t }
-read-written t v s = text-read t (valid-exactly t .0 v) s (writeOf t) refl
+pub read-written : (t : Transducer) → acceptedOf t ≡ true → Shaped t → readOf (writeOf t) ≡ record { outcome = Taken; table = t }
+read-written t v s = text-read t (accepted-valid t v) s (writeOf t) refl

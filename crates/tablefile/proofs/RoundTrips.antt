@@ -1,7 +1,7 @@
 -- Demand 2, second half, in one place: the statement of specs/RoundTrips.antt holds. Assumes nothing.
-use Rattle.transducer.proofs.Facts.{valid-exactly}
+use Rattle.transducer.proofs.AcceptedLaws.{accepted-valid}
 use Rattle.tablereader.specs.Reader.{readOf}
-use Rattle.tablereader.proofs.Validity.{read-valid}
+use Rattle.tablereader.proofs.Validity.{read-accepted}
 use Rattle.tablewriter.proofs.LengthLaws.{written-length, written-at-most}
 use Rattle.tablefile.specs.RoundTrips.{RoundTrips}
 use Rattle.tablefile.proofs.ReadWritten.{read-written}
@@ -15,7 +15,7 @@ round-trips =
       written-read = written-read;
       write-then-read = write-then-read;
       read-then-write = read-then-write;
-      taken-valid = λ f taken. valid-exactly (readOf f .table) .1 (read-valid f);
+      taken-valid = λ f taken. read-accepted f;
       written-length = written-length;
-      written-at-most = λ t v. written-at-most t (valid-exactly t .0 v);
+      written-at-most = λ t v. written-at-most t (accepted-valid t v);
     }

@@ -11,7 +11,8 @@ use Rattle.records.specs.Byte.{byteFault}
 use Rattle.records.specs.Letters.{recordEnd}
 use Rattle.transducer.specs.StateSet.{withState}
 use Rattle.transducer.specs.declared.StateSet.{StateSet}
-use Rattle.tablereader.specs.Outcome.{notRising, outcomeOf, _▸_}
+use Rattle.tablereader.specs.Outcome.{outcomeOf, _▸_}
+use Rattle.transducer.specs.Refusals.{notRising}
 use Rattle.tablereader.specs.Record.{stateSize, firstOf, numberAt}
 use Rattle.tablereader.specs.States.{risingFault, stateRecord, readStates}
 use Rattle.tablereader.specs.declared.Outcome.{Outcome}

@@ -5,7 +5,8 @@ use Prim.Native.Nat.{ℕ, _≤_}
 use native.Mathlib.Omega.{arith}
 use borrow.Author.Tests.{eqb-true, eqb-false}
 use lib.Dec.{eqb}
-use Rattle.tablereader.specs.Outcome.{ended, wrongByte, notANumber, outOfRange, notRising, bytesFollow, numberOf, outcomeOf, _▸_}
+use Rattle.tablereader.specs.Outcome.{numberOf, outcomeOf, _▸_}
+use Rattle.transducer.specs.Refusals.{ended, wrongByte, notANumber, outOfRange, notRising, bytesFollow}
 use Rattle.tablereader.specs.declared.Outcome.{Outcome}
 use Rattle.tablereader.specs.declared.Outcome.the-variants.{Taken, Ended, WrongByte, NotANumber, OutOfRange, NotRising, BytesFollow, TooLong}
 use Rattle.tablereader.proofs.Outcomes.{taken-number}

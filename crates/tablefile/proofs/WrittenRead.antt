@@ -15,7 +15,8 @@ use Rattle.transducer.specs.Transition.{outside, at, firsts}
 use Rattle.transducer.specs.Blank.{clearTransition, blankTransducer}
 use Rattle.transducer.specs.declared.StateSet.{StateSet}
 use Rattle.transducer.specs.declared.Transducer.{Transducer}
-use Rattle.tablereader.specs.Outcome.{bytesFollow, tooLong, outcomeOf, _▸_}
+use Rattle.tablereader.specs.Outcome.{outcomeOf, _▸_}
+use Rattle.transducer.specs.Refusals.{bytesFollow, tooLong}
 use Rattle.tablereader.specs.Record.{headerSize, stateSize}
 use Rattle.tablereader.specs.Header.{headerOf}
 use Rattle.tablereader.specs.States.{statesFrom}

@@ -7,7 +7,8 @@ use Prim.Native.Nat.{ℕ, _+_, _*_, _≤_}
 use lib.ListN.{length, take}
 use Rattle.records.specs.Letters.{mostBytes}
 use Rattle.words.specs.Put.{put}
-use Rattle.transducer.specs.Valid.{validOf, Shaped}
+use Rattle.transducer.specs.Valid.{Shaped}
+use Rattle.transducer.specs.Accepted.{acceptedOf}
 use Rattle.transducer.specs.declared.Transducer.{Transducer}
 use Rattle.tablereader.specs.Reader.{readOf}
 use Rattle.tablereader.specs.declared.Outcome.the-variants.{Taken}
@@ -30,7 +31,7 @@ pub record WritesFile (f before after : List ℕ) (r : Writing) : Type 0 where
 -- the round trips, of the definitions and of the calls; what is read is valid; and how long a written file is
 pub record RoundTrips : Type 0 where
   -- "reading a written table gives that table"
-  pub read-written : (t : Transducer) → validOf t ≡ true → Shaped t → readOf (writeOf t) ≡ takenAs t
+  pub read-written : (t : Transducer) → acceptedOf t ≡ true → Shaped t → readOf (writeOf t) ≡ takenAs t
   -- "and writing a read file gives its bytes"
   pub written-read : (f : List ℕ) → readOf f .outcome ≡ Taken → writeOf (readOf f .table) ≡ f
   -- the first of the calls: what `read` returns of the bytes that `write` wrote
@@ -40,8 +41,8 @@ pub record RoundTrips : Type 0 where
   pub read-then-write : (f before after : List ℕ) (r : Reading) (w : Writing) → r ≡ readOf f → r .outcome ≡ Taken → Wrote (r .table) before after w
       → length f ≤ length before → WritesFile f before after w
   -- what the reader takes keeps the rules of a table
-  pub taken-valid : (f : List ℕ) → readOf f .outcome ≡ Taken → validOf (readOf f .table) ≡ true
+  pub taken-valid : (f : List ℕ) → readOf f .outcome ≡ Taken → acceptedOf (readOf f .table) ≡ true
   -- "A written file has 18 + 6 × (starts + finals) + 18 × k + 4 × (all output codes) bytes"
   pub written-length : (t : Transducer) → length (writeOf t) ≡ 18 + 6 * (sizeOf (t .starts) + sizeOf (t .finals)) + 18 * t .count + 4 * allOutputs t
   -- "at most 13,202"
-  pub written-at-most : (t : Transducer) → validOf t ≡ true → length (writeOf t) ≤ mostBytes
+  pub written-at-most : (t : Transducer) → acceptedOf t ≡ true → length (writeOf t) ≤ mostBytes

@@ -9,10 +9,10 @@ use borrow.Author.Tests.{leb-true, eq-eqb, ne-eqb}
 use lib.Dec.{leb}
 use lib.ListN.{length, getD, drop, drop-of-length-le}
 use lib.Seq.{drop-cons}
+use Rattle.transducer.specs.Refusals.{outOfRange}
 use Rattle.records.specs.Field.{fieldOf}
 use Rattle.records.specs.declared.field.Field.{Field}
 use Rattle.records.specs.declared.field.Field.the-variants.{Value, Ended, NotANumber}
-use Rattle.tablereader.specs.Outcome.{outOfRange}
 use Rattle.tablereader.specs.Record.{firstOf, inRange, numberAt}
 use Rattle.tablereader.specs.declared.record.Number.{Number}
 

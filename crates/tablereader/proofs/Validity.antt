@@ -10,7 +10,9 @@ use lib.Dec.{eqb}
 use Rattle.transducer.specs.Limits.{mostStates, mostTransitions}
 use Rattle.transducer.specs.Blank.{blankTransducer}
 use Rattle.transducer.specs.Valid.{Valid, Shaped}
+use Rattle.transducer.specs.Accepted.{acceptedOf}
 use Rattle.transducer.specs.declared.Transducer.{Transducer}
+use Rattle.transducer.proofs.AcceptedLaws.{valid-accepted}
 use Rattle.tablereader.specs.Outcome.{numberOf}
 use Rattle.records.specs.Letters.{letterS, letterF}
 use Rattle.tablereader.specs.Header.{headerOf}
@@ -68,6 +70,10 @@ read-sound text = go (eqb (numberOf (outcomeWith text (headerOf text))) 0)
 -- what is read keeps the rules of a transducer, also where it is the blank one
 pub read-valid : (text : List ℕ) → Valid (readOf text .table)
 read-valid text = read-sound text .valid
+
+-- so every entry point accepts it
+pub read-accepted : (text : List ℕ) → acceptedOf (readOf text .table) ≡ true
+read-accepted text = valid-accepted _ (read-valid text)
 
 -- and its arrays have their lengths
 pub read-shaped : (text : List ℕ) → Shaped (readOf text .table)

@@ -2,36 +2,9 @@
 use mathlib.Core.Bool.{cond}
 use Prim.Native.Nat.{ℕ}
 use lib.Dec.{eqb}
+use Rattle.transducer.specs.Refusals.{ended, wrongByte, notANumber, outOfRange, notRising, bytesFollow, tooLong}
 use Rattle.tablereader.specs.declared.Outcome.{Outcome}
 use Rattle.tablereader.specs.declared.Outcome.the-variants.{Taken, Ended, WrongByte, NotANumber, OutOfRange, NotRising, BytesFollow, TooLong}
-
--- the text ends inside a record or before it
-abbrev pub ended : ℕ
-ended = 1
-
--- wrong letter or record end
-abbrev pub wrongByte : ℕ
-wrongByte = 2
-
--- a field is not a number
-abbrev pub notANumber : ℕ
-notANumber = 3
-
--- a field is outside its range
-abbrev pub outOfRange : ℕ
-outOfRange = 4
-
--- the states do not rise
-abbrev pub notRising : ℕ
-notRising = 5
-
--- bytes follow the last record
-abbrev pub bytesFollow : ℕ
-bytesFollow = 6
-
--- the file is too long
-abbrev pub tooLong : ℕ
-tooLong = 12
 
 -- the number of an outcome, 0 for a file that was taken
 abbrev pub numberOf : Outcome → ℕ

@@ -5,9 +5,10 @@ use mathlib.Core.List.{List}
 use Prim.Native.Nat.{ℕ, _+_, _*_}
 use lib.Dec.{eqb, ltb}
 use lib.ListN.{length}
+use Rattle.transducer.specs.Refusals.{bytesFollow, tooLong}
 use Rattle.transducer.specs.Blank.{blankTransducer}
 use Rattle.transducer.specs.declared.Transducer.{Transducer}
-use Rattle.tablereader.specs.Outcome.{numberOf, outcomeOf, bytesFollow, tooLong, _▸_}
+use Rattle.tablereader.specs.Outcome.{numberOf, outcomeOf, _▸_}
 use Rattle.tablereader.specs.Record.{headerSize, stateSize}
 use Rattle.records.specs.Letters.{letterS, letterF, mostBytes}
 use Rattle.tablereader.specs.Header.{headerOf}

@@ -4,10 +4,10 @@ use mathlib.Core.Bool.{cond, _&&_}
 use mathlib.Core.List.{List, [], _∷_}
 use Prim.Native.Nat.{ℕ}
 use lib.Dec.{eqb, leb}
+use Rattle.transducer.specs.Refusals.{ended, notANumber, outOfRange}
 use Rattle.records.specs.Field.{fieldOf}
 use Rattle.records.specs.declared.field.Field.{Field}
 use Rattle.records.specs.declared.field.Field.the-variants.{Value, Ended, NotANumber}
-use Rattle.tablereader.specs.Outcome.{ended, notANumber, outOfRange}
 use Rattle.tablereader.specs.declared.record.Number.{Number}
 
 -- the bytes of the header: the letter, four fields and the end

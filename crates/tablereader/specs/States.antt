@@ -4,9 +4,10 @@ use mathlib.Core.List.{List, [], _∷_}
 use Prim.Native.Nat.{ℕ, zero, suc, _+_, _-_}
 use lib.Dec.{ltb}
 use Rattle.records.specs.Byte.{byteFault}
+use Rattle.transducer.specs.Refusals.{notRising}
 use Rattle.transducer.specs.StateSet.{noStates, withState}
 use Rattle.transducer.specs.declared.StateSet.{StateSet}
-use Rattle.tablereader.specs.Outcome.{notRising, outcomeOf, _▸_}
+use Rattle.tablereader.specs.Outcome.{outcomeOf, _▸_}
 use Rattle.tablereader.specs.Record.{stateSize, firstOf, numberAt}
 use Rattle.records.specs.Letters.{recordEnd}
 use Rattle.tablereader.specs.declared.Outcome.{Outcome}

@@ -2,7 +2,7 @@
 // The contract of `read` cites specs/Reader.antt, where the whole format is one definition; specs/Outcome.antt gives each outcome its number.
 // A refused check does not end the reading of a record or of a file: the reading goes on, and of all refusals the first one counts.
 ghost use mathlib.Core.Path.{_≡_};
-ghost use Rattle.tablereader.specs.Outcome.{numberOf, outcomeOf, _▸_};
+ghost use Rattle.tablereader.specs.Outcome.{numberOf, recordOf, outcomeOf, _▸_};
 ghost use Rattle.tablereader.specs.Reader.{endFault, readOf};
 
 pub mod header;
@@ -11,6 +11,7 @@ pub mod states;
 pub mod transitions;
 
 use transducer::Transducer;
+use transducer::refusals;
 
 // What became of a file: it was taken, or it was refused at the record whose number is given. Records count from 0 for `T`.
 pub enum Outcome {
@@ -92,10 +93,10 @@ fn end_fault(text: &[u8], at: usize) -> u8
     ensures { λ r. ⌜ r ≡ endFault (now (text .entry)) at ⌝ }
 {
     if at < text.len() {
-        return record::BYTES_FOLLOW;
+        return refusals::BYTES_FOLLOW;
     }
     if record::MOST_BYTES < text.len() {
-        record::TOO_LONG
+        refusals::TOO_LONG
     } else {
         0
     }
@@ -108,13 +109,29 @@ impl Outcome {
     {
         match self {
             Outcome::Taken => 0,
-            Outcome::Ended(_) => record::ENDED,
-            Outcome::WrongByte(_) => record::WRONG_BYTE,
-            Outcome::NotANumber(_) => record::NOT_A_NUMBER,
-            Outcome::OutOfRange(_) => record::OUT_OF_RANGE,
-            Outcome::NotRising(_) => record::NOT_RISING,
-            Outcome::BytesFollow(_) => record::BYTES_FOLLOW,
-            Outcome::TooLong(_) => record::TOO_LONG,
+            Outcome::Ended(_) => refusals::ENDED,
+            Outcome::WrongByte(_) => refusals::WRONG_BYTE,
+            Outcome::NotANumber(_) => refusals::NOT_A_NUMBER,
+            Outcome::OutOfRange(_) => refusals::OUT_OF_RANGE,
+            Outcome::NotRising(_) => refusals::NOT_RISING,
+            Outcome::BytesFollow(_) => refusals::BYTES_FOLLOW,
+            Outcome::TooLong(_) => refusals::TOO_LONG,
+        }
+    }
+
+    // The number of the record at which a file was refused.
+    pub fn record(self) -> u16
+        ensures { λ r. ⌜ r ≡ recordOf self ⌝ }
+    {
+        match self {
+            Outcome::Taken => 0,
+            Outcome::Ended(at) => at,
+            Outcome::WrongByte(at) => at,
+            Outcome::NotANumber(at) => at,
+            Outcome::OutOfRange(at) => at,
+            Outcome::NotRising(at) => at,
+            Outcome::BytesFollow(at) => at,
+            Outcome::TooLong(at) => at,
         }
     }
 

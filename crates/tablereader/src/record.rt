@@ -1,22 +1,8 @@
-// What every record is made of: the numbers of the refusals, and a number that must stand in a range.
+// What every record is made of: a number that must stand in a range.
 ghost use mathlib.Core.Path.{_≡_};
 ghost use Rattle.tablereader.specs.Record.{firstOf, inRange, numberAt};
 use records::field::Field;
-
-// The refusals of document 01, "What a refused call hands over".
-pub const ENDED: u8 = 1;
-
-pub const WRONG_BYTE: u8 = 2;
-
-pub const NOT_A_NUMBER: u8 = 3;
-
-pub const OUT_OF_RANGE: u8 = 4;
-
-pub const NOT_RISING: u8 = 5;
-
-pub const BYTES_FOLLOW: u8 = 6;
-
-pub const TOO_LONG: u8 = 12;
+use transducer::refusals;
 
 // The longest file: a header, 32 start and 32 final states, and 256 transitions of 8 output codes.
 pub const MOST_BYTES: usize = 13202;
@@ -41,11 +27,11 @@ pub fn in_range(f: Field, low: u16, high: u16) -> Number
 {
     match f {
         Field::Ended => Number {
-            fault: ENDED,
+            fault: refusals::ENDED,
             value: low,
         },
         Field::NotANumber => Number {
-            fault: NOT_A_NUMBER,
+            fault: refusals::NOT_A_NUMBER,
             value: low,
         },
         Field::Value(v) => {
@@ -53,7 +39,7 @@ pub fn in_range(f: Field, low: u16, high: u16) -> Number
                 Number { fault: 0, value: v }
             } else {
                 Number {
-                    fault: OUT_OF_RANGE,
+                    fault: refusals::OUT_OF_RANGE,
                     value: low,
                 }
             }

@@ -9,6 +9,7 @@ use crate::Outcome;
 use crate::record;
 use crate::record::Number;
 use transducer::StateSet;
+use transducer::refusals;
 
 // The bytes of a record: the letter, a field and the end.
 pub const SIZE: usize = 6;
@@ -62,5 +63,5 @@ fn state_record(text: &[u8], at: usize, letter: u8, n: u16, low: u16) -> Number
 fn rising_fault(low: u16, state: u16) -> u8
     ensures { λ r. ⌜ r ≡ risingFault low state ⌝ }
 {
-    if state < low { record::NOT_RISING } else { 0 }
+    if state < low { refusals::NOT_RISING } else { 0 }
 }

@@ -6,19 +6,13 @@ use Prim.Native.Nat.{ℕ}
 use lib.Dec.{leb}
 use lib.ListN.{length}
 use Rattle.words.specs.Put.{put}
-use Rattle.transducer.specs.Valid.{validOf, Shaped}
+use Rattle.transducer.specs.Valid.{Shaped}
+use Rattle.transducer.specs.Refusals.{tooShort, invalid}
+use Rattle.transducer.specs.Accepted.{acceptedOf}
 use Rattle.transducer.specs.declared.Transducer.{Transducer}
 use Rattle.tablewriter.specs.File.{writeOf}
 use Rattle.tablewriter.specs.declared.Writing.{Writing}
 use Rattle.tablewriter.specs.declared.Writing.the-variants.{Written, Invalid, BufferTooShort}
-
--- document 01's number of a transducer that breaks a rule
-abbrev pub invalid : ℕ
-invalid = 8
-
--- document 01's number of a buffer that is too short (document 01: lent memory)
-abbrev pub tooShort : ℕ
-tooShort = 7
 
 -- the number of an answer, 0 where the file was written
 abbrev pub numberOf : Writing → ℕ
@@ -32,11 +26,11 @@ lengthOf (Written n) = n
 lengthOf Invalid = 0
 lengthOf BufferTooShort = 0
 
--- the first where t breaks a rule; else the second where the buffer is shorter than the file; else the third
+-- the first where t is not accepted; else the second where the buffer is shorter than the file; else the third
 unfoldable pub inCase : {A : Type 0} → Transducer → List ℕ → A → A → A → A
-inCase t buffer broken short written = cond (validOf t) (cond (leb (length (writeOf t)) (length buffer)) written short) broken
+inCase t buffer broken short written = cond (acceptedOf t) (cond (leb (length (writeOf t)) (length buffer)) written short) broken
 
--- `write` refuses with 8, then with 7, and then leaves the buffer as it was; else the file stands at the buffer's front, and its byte count is
+-- `write` refuses what is not accepted, then a short buffer, and then leaves the buffer as it was; else the file stands at the buffer's front, and its byte count is
 -- answered. The arrays of t have their lengths.
 pub record Wrote (t : Transducer) (before after : List ℕ) (r : Writing) : Type 0 where
   pub number : numberOf r ≡ inCase t before invalid tooShort 0

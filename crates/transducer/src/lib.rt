@@ -1,11 +1,13 @@
 // A finite transducer (document 01: a table) as a value: its types, its sets of states, the blank transducer and the test of its rules.
-// The contracts cite specs/StateSet.antt and specs/Valid.antt. What a transducer means, its paths and its relation, is in specs/Paths.antt
+// The contracts cite specs/StateSet.antt, specs/Valid.antt and specs/Accepted.antt. What a transducer means, its paths and its relation, is in specs/Paths.antt
 // and the files after it, which the crates above cite.
 ghost use mathlib.Core.Path.{_≡_};
 ghost use Rattle.transducer.specs.StateSet.{has, withState, noStates};
 ghost use Rattle.transducer.specs.Blank.{clearTransition, blankTransducer};
+ghost use Rattle.transducer.specs.Accepted.{Asked};
 
 pub mod limits;
+pub mod refusals;
 pub mod reversal;
 pub mod validity;
 
@@ -85,6 +87,13 @@ impl Transition {
             output: [OutputCode(0); limits::OUTPUTS],
         }
     }
+}
+
+// What every entry point asks of a transducer's value first: whether it keeps the rules.
+pub fn accepted(t: Transducer) -> bool
+    ensures { λ r. ⌜ Asked t r ⌝ }
+{
+    validity::valid(t)
 }
 
 // The blank transducer: one state and nothing else.

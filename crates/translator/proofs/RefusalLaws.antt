@@ -1,4 +1,4 @@
--- Which of the refusals 8, 9 and 10 is given, and how the contract is met by a refusal and by an answer. Assumes nothing.
+-- Which refusal is given before any search, and how the contract is met by a refusal and by an answer. Assumes nothing.
 use mathlib.Core.Path.{_≡_, refl, sym, _∙_}
 use mathlib.Core.Bool.{true, false}
 use mathlib.Core.List.{List}
@@ -6,7 +6,8 @@ use mathlib.Core.Logic.{_≢_}
 use Prim.Native.Nat.{ℕ, _≤_, _<_}
 use borrow.Author.Tests.{le-leb, lt-leb}
 use lib.ListN.{length}
-use Rattle.transducer.specs.Valid.{validOf}
+use Rattle.transducer.specs.Refusals.{invalid, wordTooLong, noInputCode}
+use Rattle.transducer.specs.Accepted.{acceptedOf}
 use Rattle.transducer.specs.declared.Transducer.{Transducer}
 use Rattle.wordsearch.specs.Limits.{mostWord}
 use Rattle.translator.specs.Numbers.{numberOf}
@@ -15,19 +16,19 @@ use Rattle.translator.specs.Translated.{Outcome, Translated}
 use Rattle.translator.specs.declared.Translation.{Translation}
 
 module _ (t : Transducer) (input : List ℕ) where
-  pub refusal-invalid : validOf t ≡ false → refusalOf t input ≡ 8
+  pub refusal-invalid : acceptedOf t ≡ false → refusalOf t input ≡ invalid
   unfolding refusalOf
   refusal-invalid v = rw v
 
-  pub refusal-long : validOf t ≡ true → mostWord < length input → refusalOf t input ≡ 9
+  pub refusal-long : acceptedOf t ≡ true → mostWord < length input → refusalOf t input ≡ wordTooLong
   unfolding refusalOf
   refusal-long v n = rw (v, lt-leb (length input) mostWord n)
 
-  pub refusal-code : validOf t ≡ true → length input ≤ mostWord → allCodes input ≡ false → refusalOf t input ≡ 10
+  pub refusal-code : acceptedOf t ≡ true → length input ≤ mostWord → allCodes input ≡ false → refusalOf t input ≡ noInputCode
   unfolding refusalOf
   refusal-code v n k = rw (v, le-leb (length input) mostWord n, k)
 
-  pub refusal-none : validOf t ≡ true → length input ≤ mostWord → allCodes input ≡ true → refusalOf t input ≡ 0
+  pub refusal-none : acceptedOf t ≡ true → length input ≤ mostWord → allCodes input ≡ true → refusalOf t input ≡ 0
   unfolding refusalOf
   refusal-none v n k = rw (v, le-leb (length input) mostWord n, k)
 

@@ -11,8 +11,9 @@ use borrow.Author.Tests.{le-leb}
 use lib.Dec.{eqb, leb}
 use lib.ListN.{length, drop, getD}
 use Rattle.transducer.specs.Limits.{mostCode}
+use Rattle.transducer.specs.Refusals as refusal
 use Rattle.transducer.specs.Transition.{OutputWord, wordOf, bytesOf}
-use Rattle.transducer.specs.Valid.{validOf}
+use Rattle.transducer.specs.Accepted.{acceptedOf}
 use Rattle.transducer.specs.Paths.{Relates, Functional}
 use Rattle.transducer.specs.Alike.{Alike}
 use Rattle.transducer.specs.declared.Transducer.{Transducer}
@@ -33,7 +34,8 @@ use Rattle.translator.proofs.RefusalLaws.{refusal-none}
 abbrev answerOf : ℕ → ℕ → Translation
 answerOf n k =
     cond (eqb n 0) (Written k)
-    (cond (eqb n 7) BufferTooShort (cond (eqb n 8) Invalid (cond (eqb n 9) WordTooLong (cond (eqb n 10) NoInputCode Unread))))
+    (cond (eqb n refusal.tooShort) BufferTooShort
+    (cond (eqb n refusal.invalid) Invalid (cond (eqb n refusal.wordTooLong) WordTooLong (cond (eqb n refusal.noInputCode) NoInputCode Unread))))
 
 answer-is : (r : Translation) → answerOf (numberOf r) (lengthOf r) ≡ r
 answer-is (Written n) = refl
@@ -58,18 +60,18 @@ refused-length Unread h = refl
 -- ---- 7 is never given with 65,528 places
 
 -- the refusals before the search are not 7
-refusal-no-seven : (t : Transducer) (input : List ℕ) → refusalOf t input ≢ 7
+refusal-no-seven : (t : Transducer) (input : List ℕ) → refusalOf t input ≢ refusal.tooShort
 unfolding refusalOf
-refusal-no-seven t input = go (validOf t) (leb (length input) mostWord) (allCodes input)
+refusal-no-seven t input = go (acceptedOf t) (leb (length input) mostWord) (allCodes input)
   where
-    go : (a b c : Bool) → _≢_ {A = ℕ} (cond a (cond b (cond c 0 10) 9) 8) 7
+    go : (a b c : Bool) → _≢_ {A = ℕ} (cond a (cond b (cond c 0 refusal.noInputCode) refusal.wordTooLong) refusal.invalid) refusal.tooShort
     go false b c e = omega arith
     go true false c e = omega arith
     go true true false e = omega arith
     go true true true e = omega arith
 
 module _ {t : Transducer} {input out₀ out : List ℕ} {r : Translation} where
-  pub never-short : mostWritten ≤ length out₀ → Translated t input out₀ out r → numberOf r ≢ 7
+  pub never-short : mostWritten ≤ length out₀ → Translated t input out₀ out r → numberOf r ≢ refusal.tooShort
   never-short room h e = go (ℕ-discrete (refusalOf t input) 0)
     where
       outcome : Outcome t input out₀ out r → ⊥
@@ -85,7 +87,7 @@ module _ {t : Transducer} {input out₀ out : List ℕ} {r : Translation} where
 
 module _ {t : Transducer} {input out₀ out : List ℕ} {r : Translation} (h : Translated t input out₀ out r) where
   -- 8, 9 and 10 are given exactly where the definition says so, whatever the transducer is
-  pub refused-exactly : (n : ℕ) → 8 ≤ n → n ≤ 10 → (numberOf r ≡ n) ↔ (refusalOf t input ≡ n)
+  pub refused-exactly : (n : ℕ) → refusal.invalid ≤ n → n ≤ refusal.noInputCode → (numberOf r ≡ n) ↔ (refusalOf t input ≡ n)
   refused-exactly n low high = (λ e. go e (ℕ-discrete (refusalOf t input) 0), λ e. h .refused (λ z. omega arith) ∙ e)
     where
       outcome : numberOf r ≡ n → Outcome t input out₀ out r → ⊥
@@ -99,29 +101,29 @@ module _ {t : Transducer} {input out₀ out : List ℕ} {r : Translation} (h : T
 
   module _ (none : refusalOf t input ≡ 0) where
     -- 11 is given exactly where no accepting path reads the word
-    pub unread-exactly : (numberOf r ≡ 11) ↔ ((y : OutputWord) → Relates t (wordOf input) y → ⊥)
+    pub unread-exactly : (numberOf r ≡ refusal.unread) ↔ ((y : OutputWord) → Relates t (wordOf input) y → ⊥)
     unread-exactly = (λ e. to e (h .answered none), λ never. from never (h .answered none))
       where
-        to : numberOf r ≡ 11 → Outcome t input out₀ out r → (y : OutputWord) → Relates t (wordOf input) y → ⊥
+        to : numberOf r ≡ refusal.unread → Outcome t input out₀ out r → (y : OutputWord) → Relates t (wordOf input) y → ⊥
         to e (Outcome.written a few fits k l o) = absurd (omega arith)
         to e (Outcome.unread never k) = never
         to e (Outcome.short a few long k) = absurd (omega arith)
 
-        from : ((y : OutputWord) → Relates t (wordOf input) y → ⊥) → Outcome t input out₀ out r → numberOf r ≡ 11
+        from : ((y : OutputWord) → Relates t (wordOf input) y → ⊥) → Outcome t input out₀ out r → numberOf r ≡ refusal.unread
         from never (Outcome.written a few fits k l o) = absurd (never _ a)
         from never (Outcome.unread never′ k) = k
         from never (Outcome.short a few long k) = absurd (never _ a)
 
     -- on a functional transducer 7 is given exactly where the output of the word is longer than the buffer
-    pub short-exactly : {y : OutputWord} → Functional t → Relates t (wordOf input) y → (numberOf r ≡ 7) ↔ (length out₀ < length y)
+    pub short-exactly : {y : OutputWord} → Functional t → Relates t (wordOf input) y → (numberOf r ≡ refusal.tooShort) ↔ (length out₀ < length y)
     short-exactly {y} f b = (λ e. to e (h .answered none), λ long. from long (h .answered none))
       where
-        to : numberOf r ≡ 7 → Outcome t input out₀ out r → length out₀ < length y
+        to : numberOf r ≡ refusal.tooShort → Outcome t input out₀ out r → length out₀ < length y
         to e (Outcome.written a few fits k l o) = absurd (omega arith)
         to e (Outcome.unread never k) = absurd (never y b)
         to e (Outcome.short {y = z} a few long k) = omega (arith, ap length (f (wordOf input) z y a b))
 
-        from : length out₀ < length y → Outcome t input out₀ out r → numberOf r ≡ 7
+        from : length out₀ < length y → Outcome t input out₀ out r → numberOf r ≡ refusal.tooShort
         from long (Outcome.written {y = z} a few fits k l o) = absurd (omega (arith, ap length (f (wordOf input) z y a b)))
         from long (Outcome.unread never k) = absurd (never y b)
         from long (Outcome.short a few long′ k) = k
@@ -203,7 +205,7 @@ codes-in-range input h =
     all-of (length input) (codeAt input)
     (λ i l. and-both (le-leb 1 (getD input i 0) (h i l .0)) (le-leb (getD input i 0) mostCode (h i l .1)))
 
-pub gives-the-output : {t : Transducer} {input out₀ out : List ℕ} {r : Translation} {y : OutputWord} → Functional t → validOf t ≡ true
+pub gives-the-output : {t : Transducer} {input out₀ out : List ℕ} {r : Translation} {y : OutputWord} → Functional t → acceptedOf t ≡ true
     → length input ≤ mostWord → InRange input → mostWritten ≤ length out₀ → Relates t (wordOf input) y → Translated t input out₀ out r
     → (r ≡ Written (length y)) × (out ≡ bytesOf y ++ drop (length y) out₀)
 gives-the-output {t} {input} {out₀} {out} {r} {y} f valid short codes room a h =
@@ -218,7 +220,7 @@ gives-the-output {t} {input} {out₀} {out} {r} {y} f valid short codes room a h
 
 -- ---- transducers that are alike
 
-module _ {t t′ : Transducer} (alike : Alike t t′) (valid : validOf t ≡ true) (valid′ : validOf t′ ≡ true) where
+module _ {t t′ : Transducer} (alike : Alike t t′) (valid : acceptedOf t ≡ true) (valid′ : acceptedOf t′ ≡ true) where
   same-refusals : (input : List ℕ) → refusalOf t input ≡ refusalOf t′ input
   unfolding refusalOf
   same-refusals input = rw (valid, valid′)
@@ -241,7 +243,7 @@ module _ {t t′ : Transducer} (alike : Alike t t′) (valid : validOf t ≡ tru
       (h : Translated t input out₀ out r) (h′ : Translated t′ input out₀′ out′ r′)
     where
       -- 8, 9, 10 and 11 agree, functional or not
-      pub alike-refuses : numberOf r ≢ 0 → numberOf r ≢ 7 → numberOf r ≡ numberOf r′
+      pub alike-refuses : numberOf r ≢ 0 → numberOf r ≢ refusal.tooShort → numberOf r ≡ numberOf r′
       alike-refuses n s = go (ℕ-discrete (refusalOf t input) 0)
         where
           outcomes : Outcome t input out₀ out r → Outcome t input out₀′ out′ r′ → numberOf r ≡ numberOf r′

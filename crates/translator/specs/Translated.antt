@@ -4,6 +4,7 @@ use mathlib.Core.List.{List, _++_}
 use mathlib.Core.Logic.{_≢_}
 use Prim.Native.Nat.{ℕ, _≤_, _<_}
 use lib.ListN.{length, drop}
+use Rattle.transducer.specs.Refusals as refusal
 use Rattle.transducer.specs.Transition.{OutputWord, wordOf, bytesOf}
 use Rattle.transducer.specs.Paths.{Relates}
 use Rattle.transducer.specs.declared.Transducer.{Transducer}
@@ -19,13 +20,13 @@ module _ (t : Transducer) (input out₀ out : List ℕ) (r : Translation) where
     written : {y : OutputWord} → Relates t (wordOf input) y → length y ≤ mostWritten → length y ≤ length out₀
         → numberOf r ≡ 0 → lengthOf r ≡ length y → out ≡ bytesOf y ++ drop (length y) out₀ → Outcome
     -- no accepting path reads the word
-    unread : ((y : OutputWord) → Relates t (wordOf input) y → ⊥) → numberOf r ≡ 11 → Outcome
+    unread : ((y : OutputWord) → Relates t (wordOf input) y → ⊥) → numberOf r ≡ refusal.unread → Outcome
     -- the output y of an accepting path that reads the word is longer than the buffer; with 65,528 places none is
-    short : {y : OutputWord} → Relates t (wordOf input) y → length y ≤ mostWritten → length out₀ < length y → numberOf r ≡ 7 → Outcome
+    short : {y : OutputWord} → Relates t (wordOf input) y → length y ≤ mostWritten → length out₀ < length y → numberOf r ≡ refusal.tooShort → Outcome
 
   -- from the transducer t, the input word's bytes and a buffer that holds out₀ the answer is r, and the buffer is left with out
   pub record Translated : Type 0 where
-    -- 8, 9 and 10 are given where the definition says so
+    -- what is refused before any search is given where the definition says so
     pub refused : refusalOf t input ≢ 0 → numberOf r ≡ refusalOf t input
     -- any other word is answered
     pub answered : refusalOf t input ≡ 0 → Outcome

@@ -5,7 +5,9 @@ use Prim.Native.Nat.{ℕ}
 use lib.Dec.{leb}
 use lib.ListN.{length, getD}
 use Rattle.transducer.specs.Limits.{mostCode}
-use Rattle.transducer.specs.Valid.{allBelow, validOf}
+use Rattle.transducer.specs.Refusals.{invalid, wordTooLong, noInputCode}
+use Rattle.transducer.specs.Valid.{allBelow}
+use Rattle.transducer.specs.Accepted.{acceptedOf}
 use Rattle.transducer.specs.declared.Transducer.{Transducer}
 use Rattle.wordsearch.specs.Limits.{mostWord}
 
@@ -17,6 +19,6 @@ codeAt input i = leb 1 (getD input i 0) && leb (getD input i 0) mostCode
 unfoldable pub allCodes : List ℕ → Bool
 allCodes input = allBelow (length input) (codeAt input)
 
--- the refusal of a transducer or a word before any search: 8, 9 or 10, in this order, or 0 where there is none
+-- the refusal of a transducer or a word before any search: that it is not accepted, that it is too long, that a byte is no code, in this order; 0 where there is none
 unfoldable pub refusalOf : Transducer → List ℕ → ℕ
-refusalOf t input = cond (validOf t) (cond (leb (length input) mostWord) (cond (allCodes input) 0 10) 9) 8
+refusalOf t input = cond (acceptedOf t) (cond (leb (length input) mostWord) (cond (allCodes input) 0 noInputCode) wordTooLong) invalid

@@ -11,10 +11,12 @@ ghost use Rattle.transducer.specs.Transition.{writtenBy, bytesOf};
 ghost use Rattle.transducer.specs.Valid.{Valid};
 ghost use Rattle.wordsearch.specs.Limits.{mostNodes};
 ghost use Rattle.wordsearch.specs.Answers.{Traced};
+ghost use Rattle.translator.specs.Numbers.{numberOf, lengthOf};
 ghost use Rattle.translator.specs.Words.{allCodes};
 ghost use Rattle.translator.specs.Translated.{Translated};
 use transducer::Transducer;
 use transducer::Transition;
+use transducer::refusals;
 use wordsearch::limits;
 
 // What a translation answers; specs/Numbers.antt gives document 01's number of each.
@@ -27,11 +29,41 @@ pub enum Translation {
     BufferTooShort,
 }
 
+impl Translation {
+    // Document 01's number of the answer, 0 where nothing is refused.
+    pub fn number(self) -> u8
+        ensures { λ r. ⌜ r ≡ numberOf self ⌝ }
+    {
+        match self {
+            Translation::Written(_) => 0,
+            Translation::Invalid => refusals::INVALID,
+            Translation::WordTooLong => refusals::WORD_TOO_LONG,
+            Translation::NoInputCode => refusals::NO_INPUT_CODE,
+            Translation::Unread => refusals::UNREAD,
+            Translation::BufferTooShort => refusals::TOO_SHORT,
+        }
+    }
+
+    // How many codes are written, 0 with a refusal.
+    pub fn length(self) -> usize
+        ensures { λ r. ⌜ r ≡ lengthOf self ⌝ }
+    {
+        match self {
+            Translation::Written(length) => length,
+            Translation::Invalid => 0,
+            Translation::WordTooLong => 0,
+            Translation::NoInputCode => 0,
+            Translation::Unread => 0,
+            Translation::BufferTooShort => 0,
+        }
+    }
+}
+
 // Writes the output of an accepting path that reads the word `input` to the front of `out`, and returns its length; or refuses, and writes nothing.
 pub fn translate(t: Transducer, input: &[u8], out: &mut [u8]) -> Translation
     ensures { λ r. ⌜ Translated t (now (input .entry)) (now (out .entry)) (now (out .exit)) r ⌝ }
 {
-    if !transducer::validity::valid(t) {
+    if !transducer::accepted(t) {
         return Translation::Invalid;
     }
     if limits::WORD < input.len() {

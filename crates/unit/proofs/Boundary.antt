@@ -9,6 +9,7 @@ use native.Mathlib.Omega.{arith}
 use lib.ListN.{length, getD, take}
 use lib.Seq.{ext-getD}
 use Rattle.words.specs.Put.{put}
+use Rattle.transducer.specs.Refusals.{answerTooShort}
 use Rattle.transducer.specs.Paths.{Functional}
 use Rattle.transducer.proofs.Bools.{le-or-lt, same-flag}
 use Rattle.witness.specs.Showing.{Buffers}
@@ -17,7 +18,7 @@ use Rattle.engine.specs.Engine.{Taken, tableOf}
 use Rattle.engine.specs.declared.Judgement.{Judgement}
 use Rattle.engine.specs.declared.FileTranslation.{FileTranslation}
 use Rattle.engine.proofs.EngineLaws.{judged-determined, file-translated-determined}
-use Rattle.answers.specs.Answers.{answerTooShort, refusalCode, flagOf, numbersOf, translateAnswer}
+use Rattle.answers.specs.Answers.{refusalCode, flagOf, numbersOf, translateAnswer}
 use Rattle.unit.specs.Calls.{VerdictGiven, translateCode, TranslationGiven, Flagged, StatesGiven, PairsGiven, DifferenceGiven, FileGiven}
 use Rattle.unit.specs.Laws.{SameVerdict, Boundary}
 use Rattle.unit.proofs.Codes.{this-one, no-room, taken-code, code-taken}

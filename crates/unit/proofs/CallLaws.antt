@@ -13,6 +13,7 @@ use Rattle.words.specs.Difference.{sharedOf, differenceOf}
 use Rattle.words.specs.Put.{put}
 use Rattle.words.specs.declared.Comparison.{Comparison}
 use Rattle.transducer.specs.Limits.{mostStates}
+use Rattle.transducer.specs.Refusals.{tooShort, invalid, answerTooShort}
 use Rattle.transducer.specs.Useful.{UsefulPair}
 use Rattle.transducer.proofs.Bools.{le-or-lt}
 use Rattle.transducer.proofs.StateSetLaws.{has-below}
@@ -20,9 +21,10 @@ use Rattle.tablereader.specs.Record.{firstOf}
 use Rattle.tablereader.specs.Reader.{readOf}
 use Rattle.tablereader.specs.declared.Reading.{Reading}
 use Rattle.tablereader.proofs.Outcomes.{taken-number}
+use Rattle.tablereader.proofs.Validity.{read-accepted}
 use Rattle.tablewriter.specs.File.{writeOf}
 use Rattle.tablewriter.specs.Writing as wrote
-use Rattle.tablewriter.specs.Writing.{tooShort, inCase, Wrote}
+use Rattle.tablewriter.specs.Writing.{inCase, Wrote}
 use Rattle.tablewriter.specs.declared.Writing.{Writing}
 use Rattle.tablefile.specs.RoundTrips.{WritesFile}
 use Rattle.tablefile.proofs.RoundTrips.{round-trips}
@@ -40,8 +42,7 @@ use Rattle.functionality.proofs.VerdictLaws.{counted}
 use Rattle.engine.specs.Engine.{numberOf, Taken, tableOf, Judged, FileTranslated}
 use Rattle.engine.specs.declared.Judgement.{Judgement}
 use Rattle.engine.specs.declared.FileTranslation.{FileTranslation}
-use Rattle.engine.proofs.EngineLaws.{table-valid}
-use Rattle.answers.specs.Answers.{answerTooShort, refusalCode, fileCode, roomFault, flagOf, kindOf, numbersOf, Given}
+use Rattle.answers.specs.Answers.{refusalCode, fileCode, roomFault, flagOf, kindOf, numbersOf, Given}
 use Rattle.answers.specs.Answers.{verdictAnswer, translateAnswer, pairsAnswer, differenceAnswer, writeAnswer}
 use Rattle.unit.specs.Calls.{verdictCode, VerdictGiven, translateCode, TranslationGiven, Flagged, statesCode, StatesGiven, pairsCode, PairsGiven}
 use Rattle.unit.specs.Calls.{DifferenceGiven, writeCode, FileGiven}
@@ -52,9 +53,9 @@ use Rattle.unit.proofs.Codes.{this-one, none-then, no-more, only-one, r
 -- the code of the functionality test: that of the buffers, since what is read keeps the rules
 tested-code : (f : List ℕ) (b : Buffers) → refusalOf (tableOf f) b ≡ firstOf (cond (fullOf b) 0 tooShort ∷ [])
 unfolding refusalOf firstOf
-tested-code f b = rw (table-valid f) (go (fullOf b))
+tested-code f b = rw (read-accepted f) (go (fullOf b))
   where
-    go : (x : Bool) → cond x 0 7 ≡ cond (eqb (cond x 0 tooShort) 0) 0 (cond x 0 tooShort)
+    go : (x : Bool) → cond x 0 tooShort ≡ cond (eqb (cond x 0 tooShort) 0) 0 (cond x 0 tooShort)
     go true = refl
     go false = refl
 
@@ -185,7 +186,7 @@ module _ {f flags : List ℕ} where
           size = useful .long;
           exactly = λ q low.
               let flag = has-below (r .states) q low in
-              let exact = useful .members (table-valid f) q in (λ k. exact .0 (flag ∙ k), λ u. sym flag ∙ exact .1 u);
+              let exact = useful .members (read-accepted f) q in (λ k. exact .0 (flag ∙ k), λ u. sym flag ∙ exact .1 u);
           list = e;
         };
       }
@@ -201,7 +202,7 @@ flagged-pairs f {r = r} useful e =
       members = r .set .member;
       size = useful .long;
       exactly = λ i low.
-          let exact = useful .members (table-valid f) (pair.firstOf i) (pair.secondOf i) in
+          let exact = useful .members (read-accepted f) (pair.firstOf i) (pair.secondOf i) in
           let flag = pair-flag (r .set) i low in (λ k. exact .0 (sym flag ∙ k), λ u. flag ∙ exact .1 u);
       list = e;
     }
@@ -239,7 +240,7 @@ module _ {f flags a : List ℕ} where
         record {
           code = none-then _ (room _ _ _ long) (none-then _ z (none-then _ (room _ _ _ h) no-more));
           refused = λ n. absurd (n refl);
-          done = λ _. record { flagged = flagged-pairs f useful e; useful = r .count; count = counted (table-valid f) useful; answer = e′ };
+          done = λ _. record { flagged = flagged-pairs f useful e; useful = r .count; count = counted (read-accepted f) useful; answer = e′ };
         }
 
 -- ---- the difference
@@ -265,7 +266,7 @@ record WroteAgain (f out out′ : List ℕ) (w : Writing) : Type 0 where
 in-case : (f out : List ℕ) {A : Type 0} (broken short written : A) → Taken f
     → inCase (tableOf f) out broken short written ≡ cond (leb (length f) (length out)) written short
 unfolding inCase
-in-case f out broken short written t = rw (table-valid f, round-trips .written-read f (taken-number (readOf f .outcome) t))
+in-case f out broken short written t = rw (read-accepted f, round-trips .written-read f (taken-number (readOf f .outcome) t))
 
 wrote-again : (f : List ℕ) {out out′ : List ℕ} {w : Writing} → Taken f → Wrote (tableOf f) out out′ w → WroteAgain f out out′ w
 wrote-again f {out} {out′} {w} t h = go (le-or-lt (length f) (length out))
@@ -277,7 +278,7 @@ wrote-again f {out} {out′} {w} t h = go (le-or-lt (length f) (length out))
     go (inr few) =
         let less = lt-leb (length f) (length out) few in
         let whole = put out 0 (writeOf (tableOf f)) in
-        let number : wrote.numberOf w ≡ tooShort = h .number ∙ in-case f out wrote.invalid tooShort 0 t ∙ ap (λ x. cond x 0 tooShort) less in
+        let number : wrote.numberOf w ≡ tooShort = h .number ∙ in-case f out invalid tooShort 0 t ∙ ap (λ x. cond x 0 tooShort) less in
         record {
           number = number ∙ no-room _ _ _ few;
           short = λ _. h .buffer ∙ in-case f out out out whole t ∙ ap (λ x. cond x whole out) less;

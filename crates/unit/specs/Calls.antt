@@ -9,9 +9,9 @@ use lib.ListN.{length, getD}
 use Rattle.words.specs.Difference.{sharedOf, differenceOf}
 use Rattle.words.specs.Put.{put}
 use Rattle.transducer.specs.Limits.{mostStates}
+use Rattle.transducer.specs.Refusals.{tooShort, answerTooShort}
 use Rattle.transducer.specs.Useful.{UsefulState, UsefulPair}
 use Rattle.tablereader.specs.Record.{firstOf}
-use Rattle.tablewriter.specs.Writing.{tooShort}
 use Rattle.product.specs.Numbers as pair
 use Rattle.product.specs.Numbers.{mostPairs}
 use Rattle.witness.specs.Showing.{Buffers}
@@ -19,7 +19,7 @@ use Rattle.functionality.specs.Decided.{fullOf, UsefulCount}
 use Rattle.engine.specs.Engine.{tableOf, Judged, FileTranslated}
 use Rattle.engine.specs.declared.Judgement.{Judgement}
 use Rattle.engine.specs.declared.FileTranslation.{FileTranslation}
-use Rattle.answers.specs.Answers.{answerTooShort, refusalCode, fileCode, roomFault, flagOf, kindOf, numbersOf}
+use Rattle.answers.specs.Answers.{refusalCode, fileCode, roomFault, flagOf, kindOf, numbersOf}
 use Rattle.answers.specs.Answers.{verdictAnswer, translateAnswer, pairsAnswer, differenceAnswer, writeAnswer}
 
 -- Each record says the same three things: what is returned, that a refusal (not 0) changes nothing that is lent, and what is done where 0 is

@@ -7,6 +7,12 @@ ghost use Rattle.answers.specs.Answers.{fileCode};
 ghost use Rattle.unit.specs.Calls.{VerdictGiven, TranslationGiven, StatesGiven, PairsGiven, DifferenceGiven, FileGiven};
 use product::steps::PAIRS;
 use transducer::limits;
+use transducer::refusals;
+
+// The refusals of a list that is too short, as the exported functions return them.
+const ANSWER_TOO_SHORT: u32 = refusals::ANSWER_TOO_SHORT as u32;
+
+const TOO_SHORT: u32 = refusals::TOO_SHORT as u32;
 
 // Reads a table file, and returns its refusal, or 0 where it is taken.
 #[no_mangle]
@@ -39,7 +45,7 @@ pub extern "C" fn yotselina_verdict(
         ⌝ }
 {
     if answer.len() < answers::VERDICT {
-        return answers::TOO_SHORT;
+        return ANSWER_TOO_SHORT;
     }
     let judgement = engine::judge(file, word, path_a, path_b, output_x, output_y);
     answers::give_judgement(answer, judgement)
@@ -60,7 +66,7 @@ pub extern "C" fn yotselina_translate(
         ⌝ }
 {
     if answer.len() < answers::TRANSLATE {
-        return answers::TOO_SHORT;
+        return ANSWER_TOO_SHORT;
     }
     let translation = engine::translate_file(file, input, output);
     let numbers = [translation.length as u64];
@@ -79,7 +85,7 @@ pub extern "C" fn yotselina_useful_states(file: &[u8], flags: &mut [u8]) -> u32
         return refused;
     }
     if flags.len() < limits::STATES {
-        return answers::BUFFER_TOO_SHORT;
+        return TOO_SHORT;
     }
     let table = reading.table;
     let found = useful::useful_states(table);
@@ -97,7 +103,7 @@ pub extern "C" fn yotselina_useful_pairs(file: &[u8], flags: &mut [u8], answer: 
         ⌝ }
 {
     if answer.len() < answers::PAIRS {
-        return answers::TOO_SHORT;
+        return ANSWER_TOO_SHORT;
     }
     let reading = tablereader::read(file);
     let outcome = reading.outcome;
@@ -106,7 +112,7 @@ pub extern "C" fn yotselina_useful_pairs(file: &[u8], flags: &mut [u8], answer: 
         return refused;
     }
     if flags.len() < PAIRS {
-        return answers::BUFFER_TOO_SHORT;
+        return TOO_SHORT;
     }
     let table = reading.table;
     let found = pairs::useful_pairs(table);
@@ -124,7 +130,7 @@ pub extern "C" fn yotselina_difference(x: &[u8], y: &[u8], answer: &mut [u64]) -
     ensures { λ r. ⌜ DifferenceGiven (now (x .entry)) (now (y .entry)) (now (answer .entry)) (now (answer .exit)) r ⌝ }
 {
     if answer.len() < answers::DIFFERENCE {
-        return answers::TOO_SHORT;
+        return ANSWER_TOO_SHORT;
     }
     let kind = answers::kind(words::difference(x, y));
     let numbers = [kind, words::shared(x, y) as u64];
@@ -138,7 +144,7 @@ pub extern "C" fn yotselina_write(file: &[u8], out: &mut [u8], answer: &mut [u64
     ensures { λ r. ⌜ FileGiven (now (file .entry)) (now (out .entry)) (now (out .exit)) (now (answer .entry)) (now (answer .exit)) r ⌝ }
 {
     if answer.len() < answers::WRITE {
-        return answers::TOO_SHORT;
+        return ANSWER_TOO_SHORT;
     }
     let reading = tablereader::read(file);
     let outcome = reading.outcome;
@@ -148,6 +154,6 @@ pub extern "C" fn yotselina_write(file: &[u8], out: &mut [u8], answer: &mut [u64
     }
     let table = reading.table;
     let writing = tablewriter::write(table, out);
-    let numbers = [answers::writing_length(writing)];
-    answers::give(answer, &numbers, answers::writing_number(writing), 0)
+    let numbers = [writing.length() as u64];
+    answers::give(answer, &numbers, writing.number() as u16, 0)
 }

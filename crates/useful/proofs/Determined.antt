@@ -5,7 +5,7 @@ use mathlib.Core.Logic.{_↔_}
 use Prim.Native.Nat.{ℕ}
 use native.Mathlib.Omega.{arith}
 use Rattle.transducer.specs.StateSet.{has}
-use Rattle.transducer.specs.Valid.{validOf}
+use Rattle.transducer.specs.Accepted.{acceptedOf}
 use Rattle.transducer.specs.declared.StateSet.{StateSet}
 use Rattle.transducer.specs.declared.Transducer.{Transducer}
 use Rattle.transducer.proofs.Bools.{same-flag}
@@ -26,10 +26,10 @@ same-outcome Invalid Invalid e = refl
 pub useful-states-determined : (t : Transducer) (r s : UsefulStates) → UsefulStatesOf t r → UsefulStatesOf t s → r ≡ s
 useful-states-determined t r s h k =
     let outcome = same-outcome (r .outcome) (s .outcome) (h .number ∙ sym (k .number)) in
-    let states = go (validOf t) refl in
+    let states = go (acceptedOf t) refl in
     λ i. record { outcome = outcome i; states = states i }
   where
-    go : (b : Bool) → validOf t ≡ b → r .states ≡ s .states
+    go : (b : Bool) → acceptedOf t ≡ b → r .states ≡ s .states
     go false e = h .refused e ∙ sym (k .refused e)
     go true e =
         same-set (r .states) (s .states) (h .long) (k .long)

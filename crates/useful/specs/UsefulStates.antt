@@ -7,7 +7,8 @@ use Prim.Native.Nat.{ℕ, _<_}
 use lib.ListN.{length, getD}
 use Rattle.transducer.specs.Limits.{mostStates}
 use Rattle.transducer.specs.StateSet.{In, noStates}
-use Rattle.transducer.specs.Valid.{validOf}
+use Rattle.transducer.specs.Accepted.{acceptedOf}
+use Rattle.transducer.specs.Refusals.{invalid}
 use Rattle.transducer.specs.Paths.{Path}
 use Rattle.transducer.specs.Useful.{UsefulState}
 use Rattle.transducer.specs.Walks.{Edge}
@@ -20,13 +21,13 @@ use Rattle.useful.specs.declared.UsefulStates.{UsefulStates}
 -- document 01's number of an outcome; 0 where nothing is refused
 abbrev pub numberOf : Outcome → ℕ
 numberOf Found = 0
-numberOf Invalid = 8
+numberOf Invalid = invalid
 
--- refusal 8 with the empty set exactly where the value breaks a rule; else a state is in the set exactly when it is useful
+-- a refusal with the empty set exactly where the value is not accepted; else a state is in the set exactly when it is useful
 pub record UsefulStatesOf (t : Transducer) (r : UsefulStates) : Type 0 where
-  pub number : numberOf (r .outcome) ≡ cond (validOf t) 0 8
-  pub refused : validOf t ≡ false → r .states ≡ noStates
-  pub members : validOf t ≡ true → (q : ℕ) → In (r .states) q ↔ UsefulState t q
+  pub number : numberOf (r .outcome) ≡ cond (acceptedOf t) 0 invalid
+  pub refused : acceptedOf t ≡ false → r .states ≡ noStates
+  pub members : acceptedOf t ≡ true → (q : ℕ) → In (r .states) q ↔ UsefulState t q
   pub long : length (r .states .member) ≡ mostStates
 
 -- ---- the parts

@@ -9,30 +9,42 @@ ghost use Rattle.worklist.specs.Search.{Grown, Blank, Rooted, Expanded, Working
 ghost use Rattle.transducer.specs.Limits.{mostStates};
 ghost use Rattle.transducer.specs.StateSet.{In};
 ghost use Rattle.transducer.specs.Valid.{Valid};
-ghost use Rattle.useful.specs.UsefulStates.{Leads, Searched, CommonOf, UsefulStatesOf};
+ghost use Rattle.useful.specs.UsefulStates.{numberOf, Leads, Searched, CommonOf, UsefulStatesOf};
 use transducer::StateSet;
 use transducer::Transducer;
 use transducer::limits;
+use transducer::refusals;
 use transducer::reversal;
-use transducer::validity;
 
-// How `useful_states` ends: the set was found, or the value breaks a rule (document 01: 8).
+// How `useful_states` ends: the set was found, or the value is not accepted.
 pub enum Outcome {
     Found,
     Invalid,
 }
 
-// The set of useful states; empty where the value breaks a rule.
+impl Outcome {
+    // Document 01's number of the outcome, 0 where nothing is refused.
+    pub fn number(self) -> u8
+        ensures { λ r. ⌜ r ≡ numberOf self ⌝ }
+    {
+        match self {
+            Outcome::Found => 0,
+            Outcome::Invalid => refusals::INVALID,
+        }
+    }
+}
+
+// The set of useful states; empty where the value is not accepted.
 pub struct UsefulStates {
     pub outcome: Outcome,
     pub states: StateSet,
 }
 
-// The useful states of t, or the refusal of a value that breaks a rule, with the empty set.
+// The useful states of t, or the refusal of a value that is not accepted, with the empty set.
 pub fn useful_states(t: Transducer) -> UsefulStates
     ensures { λ r. ⌜ UsefulStatesOf t r ⌝ }
 {
-    if !validity::valid(t) {
+    if !transducer::accepted(t) {
         return UsefulStates {
             outcome: Outcome::Invalid,
             states: StateSet::empty(),

@@ -10,16 +10,16 @@ number-requires c κs = search needs
 cast-refusal : tie.Need-cast-refusal
 cast-refusal c = search needs
 
-record-number-requires : tie.Need-record-number-requires
-record-number-requires c κs = search needs
+record-requires : tie.Need-record-requires
+record-requires c κs = search needs
 
 refusal-requires : tie.Need-refusal-requires
 refusal-requires c κs = search needs
 
 returns : tie.Need-returns
-returns c = c .refusal .ensures ∙ rw (c .before .record-number .ensures, c .before .before .number .ensures)
+returns c = c .refusal .ensures ∙ rw (c .before .«record» .ensures, c .before .before .number .ensures)
 
 pub of-file-spec : {M : Type 1} → statement M
 of-file-spec =
     tie.close
-    (tie.spec number-requires cast-refusal record-number-requires refusal-requires returns)
+    (tie.spec number-requires cast-refusal record-requires refusal-requires returns)

@@ -6,6 +6,16 @@ use Rattle.engine.proofs.EngineLaws.{file-unjudged, file-judged}
 use Rattle.engine.proofs.judge.Statement.{statement}
 use Rattle.engine.proofs.judge.Tie as tie
 
+-- ---- places: the functionality test has answered, and the reader before it
+
+abbrev tested : tie.After-verdict → tie.After-decide
+tested c = c .before .before .before .before .before .before .before .before .before .before .before .before .before
+
+abbrev taken : tie.After-decide → tie.Else1
+taken c = c .before .before .before .before .before .before .before
+
+-- ---- needs
+
 read-requires : tie.Need-read-requires
 read-requires c κs = search needs
 
@@ -15,24 +25,27 @@ number-requires c κs = search needs
 cast-t15 : tie.Need-cast-t15
 cast-t15 c = search needs
 
-record-number-requires : tie.Need-record-number-requires
-record-number-requires c κs = search needs
+record-requires : tie.Need-record-requires
+record-requires c κs = search needs
 
 returns : tie.Need-returns
 returns c =
     let number = c .before .before in
     let reads = number .before .read .ensures in
     file-unjudged (λ z. c .before .if1 .taken (number .number .ensures ∙ ap (λ r. outcome.numberOf (r .outcome)) reads ∙ z))
-    (rw (← reads, number .number .ensures, c .record-number .ensures))
+    (rw (← reads, number .number .ensures, c .«record» .ensures))
 
 decide-requires : tie.Need-decide-requires
 decide-requires c κs = search needs
 
-verdict-number-requires : tie.Need-verdict-number-requires
-verdict-number-requires c κs = search needs
+number-requires-2 : tie.Need-number-requires-2
+number-requires-2 c κs = search needs
 
-verdict-of-requires : tie.Need-verdict-of-requires
-verdict-of-requires c κs = search needs
+cast-t29 : tie.Need-cast-t29
+cast-t29 c = search needs
+
+verdict-requires : tie.Need-verdict-requires
+verdict-requires c κs = search needs
 
 same-length : tie.Need-same-length
 same-length c = search needs
@@ -51,13 +64,11 @@ same-length-5 c = search needs
 
 returns-2 : tie.Need-returns-2
 returns-2 c =
-    let decide = c .before .before .before .before .before .before .before .before .before .before .before .before .before in
-    let test = decide .before .before .before .before .before .before .before in
+    let decide = tested c in
+    let test = taken decide in
     let number = test .before in
-    let reads = number .before .read .ensures in
-    file-judged (sym (number .number .ensures ∙ ap (λ r. outcome.numberOf (r .outcome)) reads) ∙ test .if1 .left)
-    (rw reads at (decide .decide .ensures))
-    (rw (c .before .verdict-number .ensures, c .verdict-of .ensures))
+    file-judged (number .before .read .ensures) (sym (number .number .ensures) ∙ test .if1 .left) (decide .decide .ensures)
+    (rw (c .before .number2 .ensures, c .verdict .ensures))
 
 pub judge-spec : {M : Type 1} → statement M
 judge-spec =
@@ -66,11 +77,12 @@ judge-spec =
     read-requires
     number-requires
     cast-t15
-    record-number-requires
+    record-requires
     returns
     decide-requires
-    verdict-number-requires
-    verdict-of-requires
+    number-requires-2
+    cast-t29
+    verdict-requires
     same-length
     same-length-2
     same-length-3

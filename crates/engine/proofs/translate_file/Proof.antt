@@ -15,24 +15,27 @@ number-requires c κs = search needs
 cast-t10 : tie.Need-cast-t10
 cast-t10 c = search needs
 
-record-number-requires : tie.Need-record-number-requires
-record-number-requires c κs = search needs
+record-requires : tie.Need-record-requires
+record-requires c κs = search needs
 
 returns : tie.Need-returns
 returns c =
     let number = c .before .before in
     let reads = number .before .read .ensures in
     file-refused (λ z. c .before .if1 .taken (number .number .ensures ∙ ap (λ r. outcome.numberOf (r .outcome)) reads ∙ z))
-    (rw (← reads, number .number .ensures, c .record-number .ensures))
+    (rw (← reads, number .number .ensures, c .«record» .ensures))
 
 translate-requires : tie.Need-translate-requires
 translate-requires c κs = search needs
 
-translation-number-requires : tie.Need-translation-number-requires
-translation-number-requires c κs = search needs
+number-requires-2 : tie.Need-number-requires-2
+number-requires-2 c κs = search needs
 
-translation-length-requires : tie.Need-translation-length-requires
-translation-length-requires c κs = search needs
+cast-t15 : tie.Need-cast-t15
+cast-t15 c = search needs
+
+length-requires : tie.Need-length-requires
+length-requires c κs = search needs
 
 same-length : tie.Need-same-length
 same-length c = search needs
@@ -40,11 +43,10 @@ same-length c = search needs
 returns-2 : tie.Need-returns-2
 returns-2 c =
     let translate = c .before .before .before .before in
-    let number = translate .before .before .before .before in
-    let reads = number .before .read .ensures in
-    file-translated (sym (number .number .ensures ∙ ap (λ r. outcome.numberOf (r .outcome)) reads) ∙ translate .before .before .before .if1 .left)
-    (rw reads at (translate .translate .ensures))
-    (rw (c .before .translation-number .ensures, c .translation-length .ensures))
+    let test = translate .before .before .before in
+    let number = test .before in
+    file-translated (number .before .read .ensures) (sym (number .number .ensures) ∙ test .if1 .left) (translate .translate .ensures)
+    (rw (c .before .number2 .ensures, c .length .ensures))
 
 pub translate-file-spec : {M : Type 1} → statement M
 translate-file-spec =
@@ -53,10 +55,11 @@ translate-file-spec =
     read-requires
     number-requires
     cast-t10
-    record-number-requires
+    record-requires
     returns
     translate-requires
-    translation-number-requires
-    translation-length-requires
+    number-requires-2
+    cast-t15
+    length-requires
     same-length
     returns-2)

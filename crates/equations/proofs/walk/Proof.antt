@@ -65,7 +65,7 @@ slice-aggregate-ways-in-2 c = search needs
 ways-in-requires : tie.Need-ways-in-requires
 ways-in-requires c κs =
     let a = begin (at-step c) .pre in
-    (valid (a .0), (a .1 .0, (a .0 .ways .pairs, (refl, refl))))
+    (a .0 .valid, (a .1 .0, (a .0 .ways .pairs, (refl, refl))))
 
 slice-aggregate-round : tie.Need-slice-aggregate-round
 slice-aggregate-round c = search needs

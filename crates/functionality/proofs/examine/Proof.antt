@@ -1,7 +1,7 @@
 -- `examine` meets its contract. Assumes nothing.
 use mathlib.Core.Path.{refl}
 use borrow.Author.Needs.{needs}
-use Rattle.transducer.proofs.Facts.{valid-exactly}
+use Rattle.transducer.proofs.AcceptedLaws.{accepted-valid}
 use Rattle.functionality.proofs.VerdictLaws.{refusal-none, counted, decides-single}
 use Rattle.functionality.proofs.examine.Statement.{statement}
 use Rattle.functionality.proofs.examine.Tie as tie
@@ -29,7 +29,7 @@ slice-aggregate-by-input : tie.Need-slice-aggregate-by-input
 slice-aggregate-by-input c = search needs
 
 by-input-requires : tie.Need-by-input-requires
-by-input-requires c κs = (valid-exactly _ .0 (start c .pre .0), refl)
+by-input-requires c κs = (accepted-valid _ (start c .pre .0), refl)
 
 slice-aggregate-ways-out : tie.Need-slice-aggregate-ways-out
 slice-aggregate-ways-out c = search needs
@@ -44,7 +44,7 @@ slice-aggregate-ways-out-4 : tie.Need-slice-aggregate-ways-out-4
 slice-aggregate-ways-out-4 c = search needs
 
 ways-out-requires : tie.Need-ways-out-requires
-ways-out-requires c κs = (valid-exactly _ .0 (start (built c .before) .pre .0), (built c .by-input .ensures, (refl, (refl, refl))))
+ways-out-requires c κs = (start (built c .before) .pre .0, (built c .by-input .ensures, (refl, (refl, refl))))
 
 slice-aggregate-search : tie.Need-slice-aggregate-search
 slice-aggregate-search c = search needs

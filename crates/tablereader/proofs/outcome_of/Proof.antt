@@ -1,6 +1,7 @@
 -- `outcome_of` meets its contract: each arm knows the number, or that it is none of those before. Assumes nothing.
 use borrow.Author.Tests.{ne-eqb}
-use Rattle.tablereader.specs.Outcome.{outcomeOf, ended, wrongByte, notANumber, outOfRange, notRising, bytesFollow}
+use Rattle.transducer.specs.Refusals.{ended, wrongByte, notANumber, outOfRange, notRising, bytesFollow}
+use Rattle.tablereader.specs.Outcome.{outcomeOf}
 use Rattle.tablereader.proofs.outcome_of.Statement.{statement}
 use Rattle.tablereader.proofs.outcome_of.Tie as tie
 

@@ -8,9 +8,10 @@ use native.Mathlib.Nat.{zero-add}
 use borrow.Author.Needs.{needs}
 use borrow.Author.Tests.{le-leb, lt-leb, not-true, not-false}
 use lib.ListN.{length}
-use Rattle.transducer.specs.Valid.{Tested, Shaped, validOf}
+use Rattle.transducer.specs.Valid.{Shaped}
+use Rattle.transducer.specs.Accepted.{Asked, acceptedOf}
 use Rattle.transducer.specs.declared.Transducer.{Transducer}
-use Rattle.transducer.proofs.Facts.{valid-exactly}
+use Rattle.transducer.proofs.AcceptedLaws.{accepted-valid}
 use Rattle.tablewriter.specs.File.{writeOf}
 use Rattle.words.specs.Puts.{Puts}
 use Rattle.tablewriter.specs.Writing.{inCase, Wrote}
@@ -19,17 +20,17 @@ use Rattle.tablewriter.proofs.write.Statement.{statement}
 use Rattle.tablewriter.proofs.write.Tie as tie
 
 module _ {t : Transducer} (before : List ℕ) (s : Shaped t) where
-  wrote-invalid : validOf t ≡ false → Wrote t before before Invalid
+  wrote-invalid : acceptedOf t ≡ false → Wrote t before before Invalid
   unfolding inCase
   wrote-invalid e = record { number = rw e; count = rw e; buffer = rw e; shaped = s }
 
-  wrote-short : validOf t ≡ true → length before < length (writeOf t) → Wrote t before before BufferTooShort
+  wrote-short : acceptedOf t ≡ true → length before < length (writeOf t) → Wrote t before before BufferTooShort
   unfolding inCase
   wrote-short e h =
       let short = lt-leb (length (writeOf t)) (length before) h in
       record { number = rw (e, short); count = rw (e, short); buffer = rw (e, short); shaped = s }
 
-  wrote : {after : List ℕ} {n : ℕ} → validOf t ≡ true → length (writeOf t) ≤ length before → Puts before 0 (writeOf t) after n
+  wrote : {after : List ℕ} {n : ℕ} → acceptedOf t ≡ true → length (writeOf t) ≤ length before → Puts before 0 (writeOf t) after n
       → Wrote t before after (Written n)
   unfolding inCase
   wrote e h p =
@@ -37,30 +38,30 @@ module _ {t : Transducer} (before : List ℕ) (s : Shaped t) where
       record { number = rw (e, fits); count = rw (e, fits) (p .place ∙ zero-add _); buffer = rw (e, fits) (p .buffer); shaped = s }
 
 -- the test of the transducer was passed
-passed : {t : Transducer} {b : Bool} → Tested t b → not b ≡ false → validOf t ≡ true
+passed : {t : Transducer} {b : Bool} → Asked t b → not b ≡ false → acceptedOf t ≡ true
 passed h e = sym (h .answer) ∙ not-false _ e
 
-valid-requires : tie.Need-valid-requires
-valid-requires c κs = search needs
+accepted-requires : tie.Need-accepted-requires
+accepted-requires c κs = search needs
 
 returns : tie.Need-returns
 returns c =
-    let tested = c .before .valid .ensures in
+    let tested = c .before .accepted .ensures in
     wrote-invalid _ (tested .shaped) (sym (tested .answer) ∙ not-true _ (c .if1 .taken))
 
 file-length-requires : tie.Need-file-length-requires
-file-length-requires c κs = valid-exactly _ .0 (passed (c .before .valid .ensures) (c .if1 .left))
+file-length-requires c κs = accepted-valid _ (passed (c .before .accepted .ensures) (c .if1 .left))
 
 returns-2 : tie.Need-returns-2
 returns-2 c =
     let e = c .before .before in
-    let tested = e .before .valid .ensures in
+    let tested = e .before .accepted .ensures in
     wrote-short _ (tested .shaped) (passed tested (e .if1 .left)) (omega arith)
 
 put-file-requires : tie.Need-put-file-requires
 put-file-requires c κs =
     let e = c .before .before .before in
-    (valid-exactly _ .0 (passed (e .before .valid .ensures) (e .if1 .left)), record { room = omega arith })
+    (accepted-valid _ (passed (e .before .accepted .ensures) (e .if1 .left)), record { room = omega arith })
 
 same-length : tie.Need-same-length
 same-length c = search needs
@@ -68,14 +69,14 @@ same-length c = search needs
 returns-3 : tie.Need-returns-3
 returns-3 c =
     let e = c .before .before .before .before .before .before in
-    let tested = e .before .valid .ensures in
+    let tested = e .before .accepted .ensures in
     wrote _ (tested .shaped) (passed tested (e .if1 .left)) (omega arith) (c .before .before .put-file .ensures)
 
 pub write-spec : {M : Type 1} → statement M
 write-spec =
     tie.close
     (tie.spec
-    valid-requires
+    accepted-requires
     returns
     file-length-requires
     returns-2

@@ -5,8 +5,9 @@ use mathlib.Core.Bool.{true}
 use native.Mathlib.Omega.{arith}
 use borrow.Author.Needs.{needs}
 use borrow.Author.Tests.{not-true, not-false}
-use Rattle.transducer.specs.Valid.{validOf, Valid}
-use Rattle.transducer.proofs.Facts.{valid-exactly}
+use Rattle.transducer.specs.Valid.{Valid}
+use Rattle.transducer.specs.Accepted.{acceptedOf}
+use Rattle.transducer.proofs.AcceptedLaws.{accepted-valid}
 use Rattle.wordsearch.proofs.TraceLaws.{answered-found, answered-unread}
 use Rattle.translator.specs.Words.{refusalOf}
 use Rattle.translator.specs.Translated.{Outcome}
@@ -15,22 +16,22 @@ use Rattle.translator.proofs.translate.Statement.{statement}
 use Rattle.translator.proofs.translate.Tie as tie
 
 -- past the first test the transducer is valid
-is-valid : (c : tie.Else1) → validOf (c .before .before .before .before .args .t) ≡ true
-is-valid c = sym (c .before .valid .ensures .answer) ∙ not-false _ (c .if1 .left)
+is-valid : (c : tie.Else1) → acceptedOf (c .before .before .before .before .args .t) ≡ true
+is-valid c = sym (c .before .accepted .ensures .answer) ∙ not-false _ (c .if1 .left)
 
 facts : (c : tie.Else1) → Valid (c .before .before .before .before .args .t)
-facts c = valid-exactly _ .0 (is-valid c)
+facts c = accepted-valid _ (is-valid c)
 
 -- past the third test the word is not refused
 passes : (c : tie.Else3) → let a = c .before .before .before .before .before .before .before .args in refusalOf (a .t) (a .input .now) ≡ 0
 passes c =
     refusal-none _ _ (is-valid (c .before .before .before)) (c .before .before .if2 .left) (sym (c .before .codes-ok .ensures) ∙ not-false _ (c .if3 .left))
 
-valid-requires : tie.Need-valid-requires
-valid-requires c κs = search needs
+accepted-requires : tie.Need-accepted-requires
+accepted-requires c κs = search needs
 
 returns : tie.Need-returns
-returns c = refuses (refusal-invalid _ _ (sym (c .before .valid .ensures .answer) ∙ not-true _ (c .if1 .taken))) (λ z. omega arith)
+returns c = refuses (refusal-invalid _ _ (sym (c .before .accepted .ensures .answer) ∙ not-true _ (c .if1 .taken))) (λ z. omega arith)
 
 returns-2 : tie.Need-returns-2
 returns-2 c = refuses (refusal-long _ _ (is-valid (c .before)) (c .if2 .taken)) (λ z. omega arith)
@@ -109,7 +110,7 @@ pub translate-spec : {M : Type 1} → statement M
 translate-spec =
     tie.close
     (tie.spec
-    valid-requires
+    accepted-requires
     returns
     returns-2
     codes-ok-requires

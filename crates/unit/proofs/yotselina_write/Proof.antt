@@ -17,10 +17,10 @@ entered c = c .before .before
 taken : (c : tie.Else2) → fileCode (start c .args .file .now) ≡ 0
 taken c = sym (code-read _ (c .before .before .read .ensures) (c .before .of-file .ensures)) ∙ c .if2 .left
 
-abbrev sized : tie.After-writing-number → tie.After-writing-length
+abbrev sized : tie.After-number → tie.After-length
 sized c = c .before .before .before
 
-abbrev written : tie.After-writing-length → tie.After-write
+abbrev written : tie.After-length → tie.After-write
 written c = c .before .before .before
 
 abbrev accepted : tie.After-write → tie.Else2
@@ -42,14 +42,17 @@ returns-2 c =
 write-requires : tie.Need-write-requires
 write-requires c κs = search needs
 
-writing-length-requires : tie.Need-writing-length-requires
-writing-length-requires c κs = search needs
+length-requires : tie.Need-length-requires
+length-requires c κs = search needs
 
 slice-aggregate-give : tie.Need-slice-aggregate-give
 slice-aggregate-give c = search needs
 
-writing-number-requires : tie.Need-writing-number-requires
-writing-number-requires c κs = search needs
+number-requires : tie.Need-number-requires
+number-requires c κs = search needs
+
+cast-give : tie.Need-cast-give
+cast-give c = search needs
 
 give-requires : tie.Need-give-requires
 give-requires c κs = search needs
@@ -66,8 +69,8 @@ returns-3 c =
     let length = sized number in
     let at = written length in
     let read = accepted at .before in
-    file-answered (entered read .if1 .left) (taken (accepted at)) (read .before .read .ensures) (at .write .ensures) (number .writing-number .ensures)
-    (length .writing-length .ensures) (c .before .before .give .ensures)
+    file-answered (entered read .if1 .left) (taken (accepted at)) (read .before .read .ensures) (at .write .ensures) (number .number .ensures)
+    (length .length .ensures) (c .before .before .give .ensures)
 
 pub yotselina-write-spec : {M : Type 1} → statement M
 yotselina-write-spec =
@@ -78,9 +81,10 @@ yotselina-write-spec =
     of-file-requires
     returns-2
     write-requires
-    writing-length-requires
+    length-requires
     slice-aggregate-give
-    writing-number-requires
+    number-requires
+    cast-give
     give-requires
     same-length
     same-length-2

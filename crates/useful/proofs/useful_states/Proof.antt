@@ -5,10 +5,11 @@ use Prim.Native.Nat.{ℕ}
 use native.Mathlib.Omega.{arith}
 use borrow.Author.Needs.{needs}
 use borrow.Author.Tests.{not-true, not-false}
-use Rattle.transducer.specs.Valid.{Valid, validOf}
+use Rattle.transducer.specs.Valid.{Valid}
+use Rattle.transducer.specs.Accepted.{acceptedOf}
 use Rattle.transducer.specs.Reversal.{reversedOf}
 use Rattle.transducer.specs.declared.Transducer.{Transducer}
-use Rattle.transducer.proofs.Facts.{valid-exactly}
+use Rattle.transducer.proofs.AcceptedLaws.{accepted-valid}
 use Rattle.transducer.proofs.ReversalLaws.{reversed-valid}
 use Rattle.useful.specs.UsefulStates.{Searched}
 use Rattle.useful.proofs.Accessible.{useful-members}
@@ -25,18 +26,18 @@ invalid p q = sym p ∙ not-true _ q
 clash : {a : Bool} → a ≡ true → a ≡ false → ⊥
 clash p q = let z : _≡_ {A = ℕ} 0 1 = cc in omega arith
 
-is-valid : (t : Transducer) {a : Bool} → a ≡ validOf t → not a ≡ false → Valid t
-is-valid t p q = valid-exactly t .0 (tested p q)
+is-valid : (t : Transducer) {a : Bool} → a ≡ acceptedOf t → not a ≡ false → Valid t
+is-valid t p q = accepted-valid t (tested p q)
 
-valid-requires : tie.Need-valid-requires
-valid-requires c κs = search needs
+accepted-requires : tie.Need-accepted-requires
+accepted-requires c κs = search needs
 
 empty-requires : tie.Need-empty-requires
 empty-requires c κs = search needs
 
 returns : tie.Need-returns
 returns c =
-    let e = invalid (c .before .before .valid .ensures .answer) (c .before .if1 .taken) in
+    let e = invalid (c .before .before .accepted .ensures .answer) (c .before .if1 .taken) in
     record {
       number = rw e;
       refused = λ _. c .empty .ensures;
@@ -48,7 +49,7 @@ slice-aggregate-search : tie.Need-slice-aggregate-search
 slice-aggregate-search c = search needs
 
 search-requires : tie.Need-search-requires
-search-requires c κs = (is-valid _ (c .before .before .valid .ensures .answer) (c .before .if1 .left), refl)
+search-requires c κs = (is-valid _ (c .before .before .accepted .ensures .answer) (c .before .if1 .left), refl)
 
 reversed-requires : tie.Need-reversed-requires
 reversed-requires c κs = search needs
@@ -59,7 +60,7 @@ slice-aggregate-search-2 c = search needs
 search-requires-2 : tie.Need-search-requires-2
 search-requires-2 c κs =
     let i = c .before .before .before .before .before in
-    (rw (c .before .reversed .ensures) (reversed-valid _ (is-valid _ (i .before .valid .ensures .answer) (i .if1 .left))), refl)
+    (rw (c .before .reversed .ensures) (reversed-valid _ (is-valid _ (i .before .accepted .ensures .answer) (i .if1 .left))), refl)
 
 slice-aggregate-common : tie.Need-slice-aggregate-common
 slice-aggregate-common c = search needs
@@ -74,7 +75,7 @@ returns-2 : tie.Need-returns-2
 returns-2 c =
     let i = c .before .before .before .before .before .before .before .before .before .before in
     let t = i .before .before .args .t in
-    let e = tested (i .before .valid .ensures .answer) (i .if1 .left) in
+    let e = tested (i .before .accepted .ensures .answer) (i .if1 .left) in
     let there = c .before .before .before .before .before .before .before .before .search .ensures in
     let back : Searched (reversedOf t) _ = rw (c .before .before .before .before .before .before .reversed .ensures) at (c .before .before .before .before .search2 .ensures) in
     record {
@@ -88,7 +89,7 @@ pub useful-states-spec : {M : Type 1} → statement M
 useful-states-spec =
     tie.close
     (tie.spec
-    valid-requires
+    accepted-requires
     empty-requires
     returns
     slice-aggregate-search

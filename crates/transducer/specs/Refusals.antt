@@ -1,0 +1,54 @@
+-- The numbers of the refusals (document 01, "What a refused call hands over"), and the one that the library adds. Each stands here once.
+use Prim.Native.Nat.{ℕ}
+
+-- the text ends inside a record or before it
+abbrev pub ended : ℕ
+ended = 1
+
+-- wrong letter or record end
+abbrev pub wrongByte : ℕ
+wrongByte = 2
+
+-- a field is not a number
+abbrev pub notANumber : ℕ
+notANumber = 3
+
+-- a field is outside its range
+abbrev pub outOfRange : ℕ
+outOfRange = 4
+
+-- the states do not rise
+abbrev pub notRising : ℕ
+notRising = 5
+
+-- bytes follow the last record
+abbrev pub bytesFollow : ℕ
+bytesFollow = 6
+
+-- a buffer is too short (document 01: lent memory)
+abbrev pub tooShort : ℕ
+tooShort = 7
+
+-- a transducer's value breaks a rule
+abbrev pub invalid : ℕ
+invalid = 8
+
+-- an input word is too long
+abbrev pub wordTooLong : ℕ
+wordTooLong = 9
+
+-- a byte of an input word is no input code
+abbrev pub noInputCode : ℕ
+noInputCode = 10
+
+-- no accepting path reads the input word
+abbrev pub unread : ℕ
+unread = 11
+
+-- the file is too long
+abbrev pub tooLong : ℕ
+tooLong = 12
+
+-- an answer list is too short: a refusal of the library's, which document 01 does not have
+abbrev pub answerTooShort : ℕ
+answerTooShort = 100
