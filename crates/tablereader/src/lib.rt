@@ -149,12 +149,12 @@ pub fn outcome_of(fault: u8, at: u16) -> Outcome
 {
     match fault {
         0 => Outcome::Taken,
-        1 => Outcome::Ended(at),
-        2 => Outcome::WrongByte(at),
-        3 => Outcome::NotANumber(at),
-        4 => Outcome::OutOfRange(at),
-        5 => Outcome::NotRising(at),
-        6 => Outcome::BytesFollow(at),
+        refusals::ENDED => Outcome::Ended(at),
+        refusals::WRONG_BYTE => Outcome::WrongByte(at),
+        refusals::NOT_A_NUMBER => Outcome::NotANumber(at),
+        refusals::OUT_OF_RANGE => Outcome::OutOfRange(at),
+        refusals::NOT_RISING => Outcome::NotRising(at),
+        refusals::BYTES_FOLLOW => Outcome::BytesFollow(at),
         _ => Outcome::TooLong(at),
     }
 }
