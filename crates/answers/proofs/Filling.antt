@@ -8,8 +8,8 @@ use native.Mathlib.Omega.{arith}
 use mir.Val.{boolByte}
 use lib.ListN.{length, getD, set, drop, length-set, drop-of-length-le}
 use lib.Seq.{drop-cons}
-use Rattle.words.specs.Put.{put}
-use Rattle.words.proofs.PutLaws.{put-none, put-one, put-behind}
+use Rattle.buffers.specs.Put.{put}
+use Rattle.buffers.proofs.PutLaws.{put-none, put-one, put-behind}
 use Rattle.answers.specs.Answers.{flagOf}
 
 -- a flag as the code casts it

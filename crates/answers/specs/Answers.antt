@@ -6,7 +6,7 @@ use mathlib.Core.Logic.{_≢_}
 use Prim.Native.Nat.{ℕ, _+_, _*_}
 use lib.Dec.{ltb}
 use lib.ListN.{length}
-use Rattle.words.specs.Put.{put}
+use Rattle.buffers.specs.Put.{put}
 use Rattle.words.specs.declared.Comparison.{Comparison}
 use Rattle.words.specs.declared.Comparison.the-variants.{Level, FirstAhead, SecondAhead, Clash}
 use Rattle.engine.specs.Engine.{numberOf, recordOf}

@@ -3,7 +3,7 @@ ghost use mathlib.Core.Path.{_≡_};
 ghost use mathlib.Core.List.{map};
 ghost use Prim.Native.Nat.{_≤_};
 ghost use lib.ListN.{length};
-ghost use Rattle.words.specs.Put.{put};
+ghost use Rattle.buffers.specs.Put.{put};
 ghost use Rattle.tablereader.specs.Outcome.{numberOf, recordOf};
 ghost use Rattle.answers.specs.Answers.{refusalCode, verdictAnswer, flagOf, kindOf, numbersOf, Given};
 use engine::Judgement;

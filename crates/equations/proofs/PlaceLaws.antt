@@ -4,8 +4,8 @@ use mathlib.Core.List.{List, [], _∷_, _++_, append-assoc}
 use Prim.Native.Nat.{ℕ, _+_, _-_, _≤_}
 use native.Mathlib.Omega.{arith}
 use lib.ListN.{length, set, length-append}
-use Rattle.words.specs.Put.{put}
-use Rattle.words.proofs.PutLaws.{put-one, put-length, put-behind, put-there}
+use Rattle.buffers.specs.Put.{put}
+use Rattle.buffers.proofs.PutLaws.{put-one, put-length, put-behind, put-there}
 use Rattle.equations.specs.Links.{mostSteps, middle, wayIn, wayOut, EnteredBy, LeftBy, Short, Links, StandsAt, RoundAt, ThroughAt}
 use Rattle.equations.proofs.LinkLaws.{follows-unique, length-wayIn, length-wayOut}
 

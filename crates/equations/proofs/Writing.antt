@@ -5,8 +5,8 @@ use mathlib.Core.List.{List, [], _∷_}
 use Prim.Native.Nat.{ℕ, suc, _+_, _-_, _≤_, _<_}
 use native.Mathlib.Omega.{arith}
 use lib.ListN.{length, getD, set, length-set}
-use Rattle.words.specs.Put.{put}
-use Rattle.words.proofs.PutLaws.{put-none, put-one, put-behind, put-before}
+use Rattle.buffers.specs.Put.{put}
+use Rattle.buffers.proofs.PutLaws.{put-none, put-one, put-behind, put-before}
 use Rattle.product.specs.Numbers.{mostPairs}
 use Rattle.equations.specs.Links.{mostSteps, middle, Follows, wayIn, wayOut, EnteredBy, LeftBy, Short}
 use Rattle.equations.proofs.LinkLaws.{follows-on, follows-ends, length-wayIn, wayIn-more, wayOut-more, wayIn-none, wayOut-none}

@@ -10,8 +10,8 @@ use lib.Seq.{drop-cons}
 use Rattle.records.specs.Number.{leadingOf, leadingsOf, columnsOf}
 use Rattle.records.proofs.Columns.{length-columns, columns-number}
 use Rattle.listing.specs.Listing.{fieldWidth, fieldLimit, recordEnd, recordOf, countedOf, letterV, letterW, letterA, letterB, letterX, letterY, witnessListing, verdictListing, refusalListing, translationListing, pairBytes, VerdictRoom}
-use Rattle.words.specs.Puts.{Room, Puts}
-use Rattle.words.proofs.PutsLaws.{Left, left-all, left-room, left-next, left-through, left-none}
+use Rattle.buffers.specs.Put.{Room, Puts}
+use Rattle.buffers.proofs.PutsLaws.{Left, left-all, left-room, left-next, left-through, left-none}
 
 -- a field tells its number: no digit of one below `fieldLimit` is left out
 pub field-tells : (v v′ : ℕ) → v < fieldLimit → v′ < fieldLimit → columnsOf fieldWidth v ≡ columnsOf fieldWidth v′ → v ≡ v′

@@ -1,12 +1,13 @@
 // What the programs print (document 01, "Writer and programs"), written into a buffer: a verdict, a refusal or a translation, as records of a letter,
-// fields six wide and byte 10. The listings are definitions of specs/Listing.antt; `Puts` of `words` says that one stands in the buffer from
+// fields six wide and byte 10. The listings are definitions of specs/Listing.antt; `Puts` of `buffers` says that one stands in the buffer from
 // a place, that the other places hold what they held, and which place is behind it.
 ghost use mathlib.Core.List.{[], _∷_};
 ghost use Prim.Native.Nat.{_<_, _≤_};
 ghost use lib.ListN.{length};
 ghost use Rattle.records.specs.Number.{columnsOf};
 ghost use Rattle.listing.specs.Listing.{fieldWidth, fieldLimit, recordOf, countedOf, verdictListing, refusalListing, translationListing, pairBytes, VerdictRoom, TranslationRoom};
-ghost use Rattle.words.specs.Puts.{Room, Puts};
+ghost use Rattle.buffers.specs.Put.{Room, Puts};
+use buffers::put_byte;
 use witness::CODES;
 use witness::STEPS;
 use wordsearch::limits;
@@ -120,13 +121,4 @@ fn put_field(out: &mut [u8], at: usize, v: u32) -> usize
 {
     records::number::put_number(out, at, FIELD_WIDTH, v);
     at + FIELD_WIDTH
-}
-
-// One byte.
-fn put_byte(out: &mut [u8], at: usize, b: u8) -> usize
-    requires { ⌜ Room (now out) at (b ∷ []) ⌝ }
-    ensures { λ r. ⌜ Puts (now (out .entry)) at (b ∷ []) (now (out .exit)) r ⌝ }
-{
-    out[at] = b;
-    at + 1
 }

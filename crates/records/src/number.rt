@@ -3,7 +3,7 @@ ghost use mathlib.Core.Path.{_≡_};
 ghost use Prim.Native.Nat.{_+_, _≤_};
 ghost use lib.ListN.{length};
 ghost use Rattle.records.specs.Number.{leadingOf, columnsOf};
-ghost use Rattle.words.specs.Put.{put};
+ghost use Rattle.buffers.specs.Put.{put};
 
 // Writes v into the `width` columns from `at`, from the right edge to the left: the last digit, then a digit or a space in each column before it.
 // Digits that have no column are left out.

@@ -12,7 +12,7 @@ use lib.ListN.{length, length-replicate, drop}
 use lib.Seq.{take-at}
 use Rattle.transducer.specs.Transition.{bytesOf}
 use Rattle.transducer.specs.Paths.{Functional}
-use Rattle.words.specs.Puts.{Puts}
+use Rattle.buffers.specs.Put.{Puts}
 use Rattle.transducer.proofs.SizeLaws.{length-bytes}
 use Rattle.pathwords.proofs.WordLaws.{front-put}
 use Rattle.translator.specs.Words as words

@@ -8,9 +8,8 @@ use native.Mathlib.Omega.{arith}
 use borrow.Author.Tests.{eq-eqb, ne-eqb}
 use lib.ListN.{length, take, length-take, length-append, length-drop, length-replicate}
 use Rattle.transducer.specs.declared.Transducer.{Transducer}
-use Rattle.words.specs.Put.{put}
-use Rattle.words.specs.Puts.{Room, Puts}
-use Rattle.words.proofs.PutsLaws.{puts-length}
+use Rattle.buffers.specs.Put.{put, Room, Puts}
+use Rattle.buffers.proofs.PutsLaws.{puts-length}
 use Rattle.wordsearch.specs.Limits as limits
 use Rattle.translator.specs.Numbers.{lengthOf}
 use Rattle.translator.specs.Words.{refusalOf}

@@ -4,7 +4,7 @@ use mathlib.Core.List.{List}
 use Prim.Native.Nat.{ℕ, _+_, _≤_}
 use lib.Dec.{eqb}
 use lib.ListN.{length, take, replicate}
-use Rattle.words.specs.Puts.{Puts}
+use Rattle.buffers.specs.Put.{Puts}
 use Rattle.records.specs.Letters.{mostBytes}
 use Rattle.wordsearch.specs.Limits.{mostWord}
 use Rattle.witness.specs.Showing.{Buffers}

@@ -7,8 +7,8 @@ use native.Mathlib.Numerals.{add-one}
 use native.Mathlib.Omega.{arith}
 use mathlib.Core.Logic.{⊎-elim}
 use lib.ListN.{length, length-append}
-use Rattle.words.specs.Puts.{Room, Puts}
-use Rattle.words.proofs.PutsLaws.{puts-none, room-front, room-behind, puts-behind}
+use Rattle.buffers.specs.Put.{Room, Puts}
+use Rattle.buffers.proofs.PutsLaws.{puts-none, room-front, room-behind, puts-behind}
 
 -- nothing is put before turn 0, and turn i puts its part behind the rest
 pub record Grows (front part : ℕ → List ℕ) : Type 0 where

@@ -5,7 +5,7 @@ use mathlib.Core.List.{List}
 use Prim.Native.Nat.{ℕ}
 use lib.Dec.{leb}
 use lib.ListN.{length}
-use Rattle.words.specs.Put.{put}
+use Rattle.buffers.specs.Put.{put}
 use Rattle.transducer.specs.Valid.{Shaped}
 use Rattle.transducer.specs.Refusals.{tooShort, invalid}
 use Rattle.transducer.specs.Accepted.{acceptedOf}

@@ -1,5 +1,5 @@
 // The records of a table file, from a byte up to the whole file. Each function writes its bytes from the place `at` and returns the place behind them
-// (`Puts` of `words`), so that the next one goes on there.
+// (`Puts` of `buffers`), so that the next one goes on there.
 ghost use mathlib.Core.List.{[], _∷_};
 ghost use Prim.Native.Nat.{_≤_};
 ghost use Rattle.records.specs.Field.{columns};
@@ -8,8 +8,9 @@ ghost use Rattle.transducer.specs.Limits.{mostOutputs};
 ghost use Rattle.transducer.specs.Transition.{writtenBy, bytesOf};
 ghost use Rattle.transducer.specs.Valid.{Valid};
 ghost use Rattle.tablewriter.specs.File.{fieldsOf, stateAt, statesOf, stateBytes, transitionBytes, transitionBytesBelow, headerBytes, writeOf};
-ghost use Rattle.words.specs.Puts.{Room, Puts};
+ghost use Rattle.buffers.specs.Put.{Room, Puts};
 use crate::size;
+use buffers::put_byte;
 use transducer::StateSet;
 use transducer::Transducer;
 use transducer::Transition;
@@ -142,13 +143,4 @@ fn put_field(out: &mut [u8], at: usize, v: u32) -> usize
 {
     records::number::put_number(out, at, size::COLUMNS, v);
     at + size::COLUMNS
-}
-
-// One byte.
-fn put_byte(out: &mut [u8], at: usize, b: u8) -> usize
-    requires { ⌜ Room (now out) at (b ∷ []) ⌝ }
-    ensures { λ r. ⌜ Puts (now (out .entry)) at (b ∷ []) (now (out .exit)) r ⌝ }
-{
-    out[at] = b;
-    at + 1
 }

@@ -8,7 +8,7 @@ use native.Mathlib.Decide.{ℕ-discrete}
 use native.Mathlib.Omega.{arith}
 use lib.ListN.{length, getD, take}
 use lib.Seq.{ext-getD}
-use Rattle.words.specs.Put.{put}
+use Rattle.buffers.specs.Put.{put}
 use Rattle.transducer.specs.Refusals.{answerTooShort}
 use Rattle.transducer.specs.Paths.{Functional}
 use Rattle.transducer.proofs.Bools.{le-or-lt, same-flag}

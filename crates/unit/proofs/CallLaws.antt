@@ -10,7 +10,7 @@ use borrow.Author.Tests.{lt-leb}
 use lib.Dec.{eqb, leb}
 use lib.ListN.{length}
 use Rattle.words.specs.Difference.{sharedOf, differenceOf}
-use Rattle.words.specs.Put.{put}
+use Rattle.buffers.specs.Put.{put}
 use Rattle.words.specs.declared.Comparison.{Comparison}
 use Rattle.transducer.specs.Limits.{mostStates}
 use Rattle.transducer.specs.Refusals.{tooShort, invalid, answerTooShort}

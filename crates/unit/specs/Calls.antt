@@ -7,7 +7,7 @@ use mathlib.Core.Logic.{_≢_, _↔_}
 use Prim.Native.Nat.{ℕ, _≤_, _<_}
 use lib.ListN.{length, getD}
 use Rattle.words.specs.Difference.{sharedOf, differenceOf}
-use Rattle.words.specs.Put.{put}
+use Rattle.buffers.specs.Put.{put}
 use Rattle.transducer.specs.Limits.{mostStates}
 use Rattle.transducer.specs.Refusals.{tooShort, answerTooShort}
 use Rattle.transducer.specs.Useful.{UsefulState, UsefulPair}

@@ -13,7 +13,7 @@ use lib.Seq.{sets, sets-eq, drop-cons}
 use Rattle.transducer.specs.Walks.{both, left, right, leftIn, rightIn}
 use Rattle.transducer.proofs.SizeLaws.{length-sides}
 use Rattle.product.specs.Numbers.{noTransition, sides, Label, stepOf}
-use Rattle.words.specs.Put.{put}
+use Rattle.buffers.specs.Put.{put}
 use Rattle.witness.specs.Walk.{walkOf}
 use Rattle.witness.specs.Sides.{Labels, takenOf, sideOf, Front}
 

@@ -8,8 +8,8 @@ use borrow.Author.Tests.{not-true, not-false}
 use denote.Ref.{now}
 use lib.ListN.{drop}
 use Rattle.listing.specs.Listing.{letterV, letterW, letterA, letterB, letterX, letterY, recordOf, countedOf, verdictListing}
-use Rattle.words.specs.Puts.{Room}
-use Rattle.words.proofs.PutsLaws.{Left, left-all, left-room, left-next, left-none}
+use Rattle.buffers.specs.Put.{Room}
+use Rattle.buffers.proofs.PutsLaws.{Left, left-all, left-room, left-next, left-none}
 use Rattle.listing.proofs.ListingLaws.{split-parts, single-part, verdict-listing-room}
 use Rattle.listing.proofs.list_verdict.Statement.{statement}
 use Rattle.listing.proofs.list_verdict.Tie as tie

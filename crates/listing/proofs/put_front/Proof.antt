@@ -1,6 +1,6 @@
 -- `put_front` meets its contract: the letter is put, and behind it the field. Assumes nothing.
 use borrow.Author.Needs.{needs}
-use Rattle.words.proofs.PutsLaws.{left-next, left-none}
+use Rattle.buffers.proofs.PutsLaws.{left-next, left-none}
 use Rattle.listing.proofs.ListingLaws.{front-left}
 use Rattle.listing.proofs.put_front.Statement.{statement}
 use Rattle.listing.proofs.put_front.Tie as tie

@@ -1,6 +1,6 @@
 -- `put_pair` meets its contract: the letter with the first field, the second field and the end are put one after the other. Assumes nothing.
 use borrow.Author.Needs.{needs}
-use Rattle.words.proofs.PutsLaws.{left-room, left-next, left-none}
+use Rattle.buffers.proofs.PutsLaws.{left-room, left-next, left-none}
 use Rattle.listing.proofs.ListingLaws.{pair-left}
 use Rattle.listing.proofs.put_pair.Statement.{statement}
 use Rattle.listing.proofs.put_pair.Tie as tie

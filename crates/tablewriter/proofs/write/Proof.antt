@@ -13,7 +13,7 @@ use Rattle.transducer.specs.Accepted.{Asked, acceptedOf}
 use Rattle.transducer.specs.declared.Transducer.{Transducer}
 use Rattle.transducer.proofs.AcceptedLaws.{accepted-valid}
 use Rattle.tablewriter.specs.File.{writeOf}
-use Rattle.words.specs.Puts.{Puts}
+use Rattle.buffers.specs.Put.{Puts}
 use Rattle.tablewriter.specs.Writing.{inCase, Wrote}
 use Rattle.tablewriter.specs.declared.Writing.the-variants.{Written, Invalid, BufferTooShort}
 use Rattle.tablewriter.proofs.write.Statement.{statement}

@@ -10,8 +10,8 @@ use borrow.Author.Needs.{needs}
 use lib.ListN.{length, set, length-set}
 use Rattle.records.specs.Number.{digitOf, leadingOf, leadingsOf, columnsOf}
 use Rattle.records.proofs.Columns.{length-leadings}
-use Rattle.words.specs.Put.{put}
-use Rattle.words.proofs.PutLaws.{put-none, put-before}
+use Rattle.buffers.specs.Put.{put}
+use Rattle.buffers.proofs.PutLaws.{put-none, put-before}
 use Rattle.records.proofs.number.put_number.Statement.{statement}
 use Rattle.records.proofs.number.put_number.Tie as tie
 

@@ -5,7 +5,7 @@ use borrow.Author.Needs.{needs}
 use denote.Ref.{now}
 use Rattle.tablewriter.specs.File.{statesOf, stateBytes, transitionBytesBelow, headerBytes, writeOf}
 use Rattle.records.specs.Letters.{letterS, letterF}
-use Rattle.words.proofs.PutsLaws.{Left, left-all, left-room, left-next, left-none}
+use Rattle.buffers.proofs.PutsLaws.{Left, left-all, left-room, left-next, left-none}
 use Rattle.tablewriter.proofs.FileLaws.{file-parts}
 use Rattle.tablewriter.proofs.file.put_file.Statement.{statement}
 use Rattle.tablewriter.proofs.file.put_file.Tie as tie

@@ -5,7 +5,7 @@ use denote.Ref.{now}
 use Rattle.records.specs.Field.{columns}
 use Rattle.records.specs.Number.{columnsOf}
 use Rattle.tablewriter.specs.File.{fieldsOf}
-use Rattle.words.proofs.PutsLaws.{Left, left-all, left-room, left-next, left-none}
+use Rattle.buffers.proofs.PutsLaws.{Left, left-all, left-room, left-next, left-none}
 use Rattle.tablewriter.proofs.FileLaws.{front-parts}
 use Rattle.tablewriter.proofs.file.put_front.Statement.{statement}
 use Rattle.tablewriter.proofs.file.put_front.Tie as tie

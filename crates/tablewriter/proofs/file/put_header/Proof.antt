@@ -4,7 +4,7 @@ use borrow.Author.Needs.{needs}
 use denote.Ref.{now}
 use Rattle.tablewriter.specs.File.{fieldsOf, headerBytes}
 use Rattle.records.specs.Letters.{letterT, recordEnd}
-use Rattle.words.proofs.PutsLaws.{Left, left-all, left-room, left-next, left-none}
+use Rattle.buffers.proofs.PutsLaws.{Left, left-all, left-room, left-next, left-none}
 use Rattle.tablewriter.proofs.FileLaws.{header-parts}
 use Rattle.tablewriter.proofs.file.put_header.Statement.{statement}
 use Rattle.tablewriter.proofs.file.put_header.Tie as tie

@@ -4,8 +4,8 @@ use native.Mathlib.Omega.{arith}
 use borrow.Author.Needs.{needs}
 use Rattle.transducer.specs.Transition.{outputAt, firsts, bytesOf}
 use Rattle.tablewriter.specs.File.{fieldsOf}
-use Rattle.words.specs.Puts.{Puts}
-use Rattle.words.proofs.PutsLaws.{puts-length}
+use Rattle.buffers.specs.Put.{Puts}
+use Rattle.buffers.proofs.PutsLaws.{puts-length}
 use Rattle.tablewriter.proofs.TurnLaws.{turn-none, turn-room, turn, turns-done}
 use Rattle.tablewriter.proofs.FileLaws.{outputs-grow}
 use Rattle.tablewriter.proofs.file.put_outputs.Statement.{statement}

@@ -9,7 +9,7 @@ use Rattle.records.specs.Field.{columns}
 use Rattle.records.specs.Number.{columnsOf}
 use Rattle.tablewriter.specs.File.{stateAt, stateBytes}
 use Rattle.records.specs.Letters.{recordEnd}
-use Rattle.words.proofs.PutsLaws.{Left, puts-none, left-all, left-room, left-next, left-none}
+use Rattle.buffers.proofs.PutsLaws.{Left, puts-none, left-all, left-room, left-next, left-none}
 use Rattle.tablewriter.proofs.FileLaws.{state-parts, state-in, state-out}
 use Rattle.tablewriter.proofs.file.put_state.Statement.{statement}
 use Rattle.tablewriter.proofs.file.put_state.Tie as tie

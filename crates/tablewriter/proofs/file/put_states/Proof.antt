@@ -3,8 +3,8 @@ use Prim.Native.Nat.{_≤_, _-_}
 use native.Mathlib.Omega.{arith}
 use Rattle.transducer.specs.Limits.{mostStates}
 use Rattle.tablewriter.specs.File.{statesBelow, stateBytes}
-use Rattle.words.specs.Puts.{Puts}
-use Rattle.words.proofs.PutsLaws.{puts-length}
+use Rattle.buffers.specs.Put.{Puts}
+use Rattle.buffers.proofs.PutsLaws.{puts-length}
 use Rattle.tablewriter.proofs.TurnLaws.{turn-none, turn-room, turn, turns-done}
 use Rattle.tablewriter.proofs.FileLaws.{states-grow}
 use Rattle.tablewriter.proofs.file.put_states.Statement.{statement}

@@ -5,7 +5,7 @@ use denote.Ref.{now}
 use Rattle.transducer.specs.Transition.{writtenBy, bytesOf}
 use Rattle.tablewriter.specs.File.{fieldsOf, transitionBytes}
 use Rattle.records.specs.Letters.{letterL, recordEnd}
-use Rattle.words.proofs.PutsLaws.{Left, left-all, left-room, left-next, left-none}
+use Rattle.buffers.proofs.PutsLaws.{Left, left-all, left-room, left-next, left-none}
 use Rattle.tablewriter.proofs.FileLaws.{record-parts}
 use Rattle.tablewriter.proofs.file.put_transition.Statement.{statement}
 use Rattle.tablewriter.proofs.file.put_transition.Tie as tie

@@ -2,9 +2,9 @@
 use borrow.Author.Needs.{needs}
 use mathlib.Core.Path.{refl}
 use native.Mathlib.Omega.{arith}
-use Rattle.words.proofs.PutLaws.{put-one}
-use Rattle.listing.proofs.put_byte.Statement.{statement}
-use Rattle.listing.proofs.put_byte.Tie as tie
+use Rattle.buffers.proofs.PutsLaws.{puts-one}
+use Rattle.buffers.proofs.put_byte.Statement.{statement}
+use Rattle.buffers.proofs.put_byte.Tie as tie
 
 slice-write-out : tie.Need-slice-write-out
 slice-write-out c = search needs
@@ -16,7 +16,7 @@ same-length : tie.Need-same-length
 same-length c = search needs
 
 returns : tie.Need-returns
-returns c = record { buffer = put-one _ _ _ (omega arith); place = refl }
+returns c = puts-one _ (omega arith) refl
 
 pub put-byte-spec : {M : Type 1} → statement M
 put-byte-spec = tie.close (tie.spec slice-write-out add-result same-length returns)

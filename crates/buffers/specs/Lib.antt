@@ -1,0 +1,2 @@
+-- What the contracts of the crates that write into buffers cite.
+pub mod Put
