@@ -8,13 +8,14 @@ use lib.ListN.{length, length-append}
 use Rattle.transducer.specs.StateSet.{has, withState}
 use Rattle.transducer.specs.Accepted.{acceptedOf}
 use Rattle.transducer.specs.Transition.{at, readBy}
+use Rattle.transducer.specs.Lines.{transducerOf}
 use Rattle.transducer.specs.Paths.{Path, here, step, reads}
 use Rattle.transducer.specs.Useful.{Through, UsefulPair}
 use Rattle.transducer.proofs.PathLaws.{path-join}
 use Rattle.product.specs.Numbers.{pairOf, firstOf, secondOf}
 use Rattle.pairs.specs.UsefulPairs.{hasPair, countTrue}
 use Rattle.functionality.specs.Decided.{UsefulCount}
-use Rattle.cases.specs.Cases.{setOfStates, transducerOf, tableD}
+use Rattle.cases.specs.Cases.{setOfStates, tableD}
 use Rattle.cases.proofs.Each.{Each, more, nothing}
 use Rattle.cases.proofs.Pairs.{flagsOf, useful-count}
 use Rattle.cases.proofs.PathsOfD.{below-four, line-0, line-1, line-2, line-3, start-0}

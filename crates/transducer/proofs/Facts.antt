@@ -24,7 +24,7 @@ unfolding has
 in-below s q h = ltb-true q mostStates (and-left (ltb q mostStates) (getD (s .member) q false) h)
 
 module _ (n : ℕ) (s : StateSet) where
-  set-facts : setOf n s ≡ true → (q : ℕ) → In s q → q < n
+  pub set-facts : setOf n s ≡ true → (q : ℕ) → In s q → q < n
   unfolding setOf
   set-facts e q h = ltb-true q n (drop-not (ltb q n) (rw h at (all-at mostStates (λ p. ltb p n || not (has s p)) e q (in-below s q h))))
     where
@@ -68,7 +68,7 @@ facts-codes v u r =
     (le-or-lt (v .count) j))
 
 module _ (n : ℕ) (v : Transition) where
-  used-facts : usedOf n v ≡ true → codesOf v ≡ true → Used n v
+  pub used-facts : usedOf n v ≡ true → codesOf v ≡ true → Used n v
   unfolding usedOf
   used-facts e d =
       let p = and-four (ltb (v .from) n) (ltb (v .to) n) (leb (v .input .0) mostCode) (leb (v .count) mostOutputs) e in
@@ -83,7 +83,7 @@ module _ (n : ℕ) (v : Transition) where
         beyond-zero = λ j h l. code-facts v d j l .1 h;
       }
 
-  facts-used : Used n v → (usedOf n v ≡ true) × (codesOf v ≡ true)
+  pub facts-used : Used n v → (usedOf n v ≡ true) × (codesOf v ≡ true)
   unfolding usedOf
   facts-used u = (
     rw (lt-ltb (v .from) n (u .from-state), lt-ltb (v .to) n (u .to-state), le-leb (v .input .0) mostCode (u .input-code))

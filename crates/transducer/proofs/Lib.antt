@@ -7,6 +7,8 @@ pub mod PathLaws
 pub mod FunctionalLaws
 pub mod WalkLaws
 pub mod MoveLaws
+pub mod LineLaws
+pub mod WithinLaws
 pub mod AlikeLaws
 pub mod ExchangedLaws
 pub mod SizeLaws

@@ -6,6 +6,7 @@ pub mod Transition
 pub mod Blank
 pub mod Valid
 pub mod Accepted
+pub mod Lines
 pub mod Paths
 pub mod Useful
 pub mod Walks

@@ -1,0 +1,187 @@
+-- A transducer and the list of its lines: each makes the other, and the lines tell what the transitions are and whether the rules are kept.
+-- Assumes nothing.
+use mathlib.Core.Path.{_≡_, refl, sym, ap, _∙_}
+use mathlib.Core.Bool.{true}
+use mathlib.Core.List.{List, [], _∷_, _++_, List·Memᴰ·head, List·Memᴰ·tail}
+use mathlib.Core.Logic.{_↔_, _⊎_, inl, inr, ⊎-elim}
+use Prim.Native.Nat.{ℕ, zero, suc, _+_, _-_, _≤_, _<_}
+use native.Mathlib.Nat.{eq-or-lt-of-le, le-of-suc-le-suc}
+use native.Mathlib.Omega.{arith}
+use lib.ListN.{length, getD, replicate, length-append, length-replicate, getD-replicate, List·getD-append}
+use lib.Seq.{getD-at, getD-append-add, ext-getD}
+use Rattle.transducer.specs.Limits.{mostTransitions, mostOutputs}
+use Rattle.transducer.specs.Transition.{at, outside, firsts, outputAt}
+use Rattle.transducer.specs.Blank.{clearTransition}
+use Rattle.transducer.specs.Valid.{Used, Clear, Valid, Shaped, usedOf, codesOf}
+use Rattle.transducer.specs.Lines.{linesOf, transducerOf, Among, lineOf, Keeps}
+use Rattle.transducer.specs.declared.OutputCode.{OutputCode}
+use Rattle.transducer.specs.declared.StateSet.{StateSet}
+use Rattle.transducer.specs.declared.Transition.{Transition}
+use Rattle.transducer.specs.declared.Transducer.{Transducer}
+use Rattle.transducer.proofs.Bools.{le-or-lt, and-left, and-right, and-both}
+use Rattle.transducer.proofs.Facts.{used-facts, facts-used}
+use Rattle.transducer.proofs.SizeLaws.{length-firsts}
+
+-- ---- the lines of a list
+
+-- value j of the first n
+pub getD-firsts : {A : Type 0} (n : ℕ) (f : ℕ → A) (d : A) (j : ℕ) → j < n → getD (firsts n f) j d ≡ f j
+unfolding firsts
+getD-firsts zero f d j h = absurd (omega arith)
+getD-firsts (suc n) f d j h =
+    ⊎-elim
+    (λ (e : j ≡ n). rw e (getD-at (firsts n f) (f n) [] d n (length-firsts n f)))
+    (λ (l : j < n). List·getD-append (firsts n f) (f n ∷ []) d j (omega (arith, length-firsts n f)) ∙ getD-firsts n f d j l)
+    (eq-or-lt-of-le (le-of-suc-le-suc h))
+
+-- what stands at a place is one of the lines
+pub place-among : (lines : List Transition) (l : ℕ) → l < length lines → Among (getD lines l outside) lines
+place-among [] l h = absurd (omega arith)
+place-among (v ∷ lines) zero h = List·Memᴰ·head refl
+place-among (v ∷ lines) (suc l) h = List·Memᴰ·tail (place-among lines l (omega arith))
+
+-- and one of the lines stands at a place
+record Place (v : Transition) (lines : List Transition) : Type 0 where
+  number : ℕ
+  below : number < length lines
+  same : getD lines number outside ≡ v
+
+among-place : {v : Transition} {lines : List Transition} → Among v lines → Place v lines
+among-place (List·Memᴰ·head e) = record { number = 0; below = omega arith; same = sym e }
+among-place (List·Memᴰ·tail m) = let p = among-place m in record { number = suc (p .number); below = omega (arith, p .below); same = p .same }
+
+-- the test of a line holds exactly of one in use
+pub line-exactly : (n : ℕ) (v : Transition) → (lineOf n v ≡ true) ↔ Used n v
+unfolding lineOf
+line-exactly n v = (
+  λ e. used-facts n v (and-left (usedOf n v) (codesOf v) e) (and-right (usedOf n v) (codesOf v) e),
+  λ u. let b = facts-used n v u in and-both (b .0) (b .1),
+)
+
+-- ---- from a transducer to its lines
+
+module _ (t : Transducer) where
+  -- they are as many as the count says
+  pub lines-long : length (linesOf t) ≡ t .count
+  lines-long = length-firsts (t .count) (at t)
+
+  -- line l is transition l
+  pub line-at : (l : ℕ) → l < t .count → getD (linesOf t) l outside ≡ at t l
+  line-at l h = getD-firsts (t .count) (at t) outside l h
+
+  -- so a transition is one of the lines
+  pub at-among : (l : ℕ) → l < t .count → Among (at t l) (linesOf t)
+  at-among l h = rw (line-at l h) at (place-among (linesOf t) l (omega (arith, lines-long)))
+
+-- and one of the lines is a transition
+pub record Numbered (t : Transducer) (v : Transition) : Type 0 where
+  pub number : ℕ
+  pub below : number < t .count
+  pub same : at t number ≡ v
+
+pub among-numbered : (t : Transducer) {v : Transition} → Among v (linesOf t) → Numbered t v
+among-numbered t m =
+    let p = among-place m in
+    let h : p .number < t .count = omega (arith, lines-long t, p .below) in
+    record { number = p .number; below = h; same = sym (line-at t (p .number) h) ∙ p .same }
+
+-- ---- from lines to a transducer
+
+module _ (n : ℕ) (starts finals : StateSet) (lines : List Transition) where
+  -- transition l is line l
+  pub made-at : (l : ℕ) → l < length lines → at (transducerOf n starts finals lines) l ≡ getD lines l outside
+  unfolding transducerOf
+  made-at l h = List·getD-append lines _ outside l h
+
+  -- the places beyond are clear
+  pub made-clear : (l : ℕ) → length lines ≤ l → l < mostTransitions → at (transducerOf n starts finals lines) l ≡ clearTransition
+  unfolding transducerOf
+  made-clear l h k =
+      let beyond : length lines + (l - length lines) ≡ l = omega arith in
+      ap (λ i. at (transducerOf n starts finals lines) i) (sym beyond)
+      ∙ getD-append-add lines (replicate (mostTransitions - length lines) clearTransition) (l - length lines) outside
+      ∙ getD-replicate (mostTransitions - length lines) (l - length lines) clearTransition outside (omega arith)
+
+  -- its lines are the ones of which it is made
+  pub made-lines : linesOf (transducerOf n starts finals lines) ≡ lines
+  unfolding transducerOf
+  made-lines =
+      let t = transducerOf n starts finals lines in
+      ext-getD outside (linesOf t) lines (lines-long t) (λ l h. let k : l < length lines = omega (arith, lines-long t) in line-at t l k ∙ made-at l k)
+
+-- ---- back again
+
+-- a transition that is not in use, and whose array has its length, is the clear one
+pub clear-same : (v : Transition) → Clear v → length (v .output) ≡ mostOutputs → v ≡ clearTransition
+clear-same v c size =
+    let none : OutputCode = record { 0 = 0 } in
+    let outputs : v .output ≡ replicate mostOutputs none =
+    ext-getD none (v .output) (replicate mostOutputs none) (size ∙ sym (length-replicate mostOutputs none))
+    (λ j h. let k : j < mostOutputs = omega (arith, size) in code (outputAt v j) (c .outputs-zero j k) ∙ sym (getD-replicate mostOutputs j none none k))
+    in
+    λ i. record { from = c .from-zero i; to = c .to-zero i; input = record { 0 = c .input-zero i }; count = c .count-zero i; output = outputs i }
+  where
+    code : (a : OutputCode) → a .0 ≡ 0 → a ≡ record { 0 = 0 }
+    code a e = λ i. record { 0 = e i }
+
+-- a transducer that keeps the rules is made of its own parts
+module _ (t : Transducer) (v : Valid t) (s : Shaped t) where
+  abbrev again : Transducer
+  again = transducerOf (t .states) (t .starts) (t .finals) (linesOf t)
+
+  place-again : (l : ℕ) → l < mostTransitions → at again l ≡ at t l
+  place-again l k =
+      ⊎-elim
+      (λ (h : t .count ≤ l).
+      made-clear _ _ _ (linesOf t) l (omega (arith, lines-long t)) k ∙ sym (clear-same (at t l) (v .beyond-clear l h k) (s .outputs l k)))
+      (λ (h : l < t .count). made-at _ _ _ (linesOf t) l (omega (arith, lines-long t)) ∙ line-at t l h)
+      (le-or-lt (t .count) l)
+
+  pub made-again : transducerOf (t .states) (t .starts) (t .finals) (linesOf t) ≡ t
+  unfolding transducerOf
+  made-again =
+      let rest = replicate (mostTransitions - length (linesOf t)) clearTransition in
+      let few = v .few-transitions in
+      let long : length (linesOf t ++ rest) ≡ mostTransitions =
+      omega (arith, length-append (linesOf t) rest, length-replicate (mostTransitions - length (linesOf t)) clearTransition, lines-long t)
+      in
+      let transitions : linesOf t ++ rest ≡ t .transitions =
+      ext-getD outside (linesOf t ++ rest) (t .transitions) (long ∙ sym (s .transitions)) (λ l h. place-again l (omega (arith, long)))
+      in
+      λ i. record { states = t .states; starts = t .starts; finals = t .finals; count = lines-long t i; transitions = transitions i }
+
+-- ---- the rules
+
+pub clear-clear : Clear clearTransition
+clear-clear =
+    record {
+      from-zero = refl;
+      to-zero = refl;
+      input-zero = refl;
+      count-zero = refl;
+      outputs-zero = λ j h. ap (λ (c : OutputCode). c .0) (getD-replicate mostOutputs j _ _ h);
+    }
+
+-- what is made keeps the rules exactly where its parts do
+module _ (n : ℕ) (starts finals : StateSet) (lines : List Transition) where
+  pub made-valid : Valid (transducerOf n starts finals lines) ↔ Keeps n starts finals lines
+  unfolding transducerOf
+  made-valid = (
+    λ v. record {
+      some-state = v .some-state;
+      few-states = v .few-states;
+      start-state = v .start-state;
+      final-state = v .final-state;
+      few-lines = v .few-transitions;
+      used = λ w m. let p = among-place m in rw (made-at n starts finals lines (p .number) (p .below), p .same) at (v .used (p .number) (p .below));
+    },
+    λ k. record {
+      some-state = k .some-state;
+      few-states = k .few-states;
+      start-state = k .start-state;
+      final-state = k .final-state;
+      few-transitions = k .few-lines;
+      used = λ l h. rw (made-at n starts finals lines l h) (k .used _ (place-among lines l h));
+      beyond-clear = λ l h b. rw (made-clear n starts finals lines l h b) clear-clear;
+    },
+  )

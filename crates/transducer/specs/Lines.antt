@@ -1,0 +1,45 @@
+-- A transducer as its number of states, its two sets of states and the list of its transitions (document 01: lines).
+use mathlib.Core.Bool.{Bool, _&&_}
+use mathlib.Core.List.{List, _++_, List·Memᴰ}
+use Prim.Native.Nat.{ℕ, _-_, _≤_, _<_}
+use lib.ListN.{length, replicate}
+use Rattle.transducer.specs.Limits.{mostStates, mostTransitions}
+use Rattle.transducer.specs.StateSet.{In}
+use Rattle.transducer.specs.Transition.{at, firsts}
+use Rattle.transducer.specs.Blank.{clearTransition}
+use Rattle.transducer.specs.Valid.{Used, usedOf, codesOf}
+use Rattle.transducer.specs.declared.StateSet.{StateSet}
+use Rattle.transducer.specs.declared.Transition.{Transition}
+use Rattle.transducer.specs.declared.Transducer.{Transducer}
+
+-- the transitions in use, in their order
+abbrev pub linesOf : Transducer → List Transition
+linesOf t = firsts (t .count) (at t)
+
+-- the transducer with n states, these start and final states and these transitions; the places beyond hold 0
+unfoldable pub transducerOf : ℕ → StateSet → StateSet → List Transition → Transducer
+transducerOf n starts finals lines =
+    record {
+      states = n;
+      starts = starts;
+      finals = finals;
+      count = length lines;
+      transitions = lines ++ replicate (mostTransitions - length lines) clearTransition;
+    }
+
+-- v is one of the lines
+abbrev pub Among : Transition → List Transition → Type 0
+Among v lines = List·Memᴰ v lines
+
+-- a line keeps the rules of a transition in use, among n states: as a test, `Used` being the same as facts
+unfoldable pub lineOf : ℕ → Transition → Bool
+lineOf n v = usedOf n v && codesOf v
+
+-- what makes a transducer that keeps the rules
+pub record Keeps (n : ℕ) (starts finals : StateSet) (lines : List Transition) : Type 0 where
+  pub some-state : 1 ≤ n
+  pub few-states : n ≤ mostStates
+  pub start-state : (q : ℕ) → In starts q → q < n
+  pub final-state : (q : ℕ) → In finals q → q < n
+  pub few-lines : length lines ≤ mostTransitions
+  pub used : (v : Transition) → Among v lines → Used n v
