@@ -4,9 +4,10 @@ ghost use Prim.Native.Nat.{_+_, _≤_};
 ghost use lib.ListN.{length};
 ghost use Rattle.product.specs.Numbers.{mostPairs};
 ghost use Rattle.equations.specs.Links.{linksOf, mostSteps, middle, Short, Lists, EnteredBy, LeftBy, RoundAt, ThroughAt};
+use product::steps::PAIRS;
 
 // The place of the step in the middle of a walk.
-pub const MIDDLE: usize = 1023;
+pub const MIDDLE: usize = PAIRS - 1;
 // The place behind it.
 const BEHIND: usize = MIDDLE + 1;
 

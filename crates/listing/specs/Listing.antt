@@ -82,9 +82,9 @@ translationListing items = countedOf letterX items
 
 -- ---- how long they can be: 6 bytes for each number and 2 for each record
 
--- a record of two numbers: 2 + 6 × 2
+-- the bytes of a record of two numbers
 abbrev pub pairBytes : ℕ
-pairBytes = 14
+pairBytes = 2 + fieldWidth * 2
 
 -- the most items of a shown input word and of a path: 2,047
 abbrev pub mostSteps : ℕ

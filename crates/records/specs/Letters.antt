@@ -1,5 +1,7 @@
 -- The letters and the end of the records of a table file, and the length of the longest file (document 01, "The file").
-use Prim.Native.Nat.{ℕ}
+use Prim.Native.Nat.{ℕ, _+_, _*_}
+use Rattle.transducer.specs.Limits.{mostStates, mostTransitions, mostOutputs}
+use Rattle.records.specs.Field.{columns}
 
 -- the letter of the first record, `T`
 abbrev pub letterT : ℕ
@@ -21,7 +23,7 @@ letterL = 76
 abbrev pub recordEnd : ℕ
 recordEnd = 10
 
--- the longest file: a header of 18 bytes, 32 start and 32 final states of 6 bytes, 256 transitions of 18 bytes and 8 output codes of 4 bytes:
--- 18 + 6 × 64 + 18 × 256 + 4 × 8 × 256
+-- the longest file: a header of four fields, all states as start and as final states, of one field each, and all transitions, each of four fields and
+-- the most output codes; a record has two bytes beside its fields
 abbrev pub mostBytes : ℕ
-mostBytes = 13202
+mostBytes = 2 + 4 * columns + 2 * mostStates * (2 + columns) + mostTransitions * (2 + (4 + mostOutputs) * columns)

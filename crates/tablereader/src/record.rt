@@ -1,11 +1,17 @@
 // What every record is made of: a number that must stand in a range.
 ghost use mathlib.Core.Path.{_≡_};
 ghost use Rattle.tablereader.specs.Record.{firstOf, inRange, numberAt};
+use records::field::COLUMNS;
 use records::field::Field;
+use transducer::limits;
 use transducer::refusals;
 
-// The longest file: a header, 32 start and 32 final states, and 256 transitions of 8 output codes.
-pub const MOST_BYTES: usize = 13202;
+// The longest file: a header of four fields, all states as start and as final states, of one field each, and all transitions, each of four fields and
+// the most output codes; a record has two bytes beside its fields.
+pub const MOST_BYTES: usize = 2
+    + 4 * COLUMNS
+    + 2 * limits::STATES * (2 + COLUMNS)
+    + limits::TRANSITIONS * (2 + (4 + limits::OUTPUTS) * COLUMNS);
 
 // A number that was read, with the refusal's number, 0 where there is none. A number that was refused is given the least value of its range.
 pub struct Number {
