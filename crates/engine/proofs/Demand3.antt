@@ -2,13 +2,14 @@
 -- refused; a single verdict means that the transducer is functional, and a split one shows two readings. Assumes nothing.
 use mathlib.Core.Path.{_≡_, refl, sym, ap, _∙_}
 use mathlib.Core.Bool.{Bool, true, false}
-use mathlib.Core.List.{List, _++_}
+use mathlib.Core.List.{List}
 use mathlib.Core.Logic.{_↔_}
 use Prim.Native.Nat.{ℕ, _*_, _-_, _≤_}
 use native.Mathlib.Omega.{arith}
 use borrow.Author.Tests.{eqb-true, ne-eqb}
 use lib.ListN.{length, take}
-use lib.Seq.{take-at}
+use Rattle.buffers.specs.Put.{put}
+use Rattle.buffers.proofs.PutLaws.{put-there}
 use Rattle.transducer.specs.Transition.{wordOf}
 use Rattle.transducer.specs.Paths.{reads, Accepting, outputOf, Functional}
 use Rattle.transducer.specs.Alike.{Alike}
@@ -123,8 +124,8 @@ file-output {f} {input} {π = π} taken functional h short a e =
     }
 
 -- what is written at the front of a buffer is its beginning
-beginning : (bytes rest : List ℕ) {out : List ℕ} {n : ℕ} → n ≡ length bytes → out ≡ bytes ++ rest → take n out ≡ bytes
-beginning bytes rest {n = n} size e = rw e (take-at bytes rest n (sym size))
+beginning : (bytes out₀ : List ℕ) {out : List ℕ} {n : ℕ} → n ≡ length bytes → out ≡ put out₀ 0 bytes → take n out ≡ bytes
+beginning bytes out₀ size e = rw (e, size) (put-there out₀ 0 bytes (omega arith))
 
 -- two files whose transducers are alike get the same answer where they are functional
 file-same : {f g input out₀ out out₀′ out′ : List ℕ} {q q′ : FileTranslation} → Taken f → Taken g → Alike (tableOf f) (tableOf g)
@@ -140,7 +141,7 @@ file-same {f} {g} {out₀ = out₀} {out} {out₀′} {out′} {q} {q′} taken 
     record {
       number = ap (λ p. p .number) answer;
       size = ap (λ p. p .length) answer;
-      codes = beginning (same .bytes) _ size (same .one) ∙ sym (beginning (same .bytes) _ (sym (ap (λ p. p .length) answer) ∙ size) (same .other));
+      codes = beginning (same .bytes) out₀ size (same .one) ∙ sym (beginning (same .bytes) out₀′ (sym (ap (λ p. p .length) answer) ∙ size) (same .other));
     }
 
 -- ---- the theorem

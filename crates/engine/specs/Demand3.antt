@@ -3,10 +3,11 @@
 -- table is a transducer, a cue is an input word, 'split' and 'single' are the two values of `split`, lent memory is a buffer.
 use mathlib.Core.Path.{_≡_}
 use mathlib.Core.Bool.{true, false}
-use mathlib.Core.List.{List, _++_}
+use mathlib.Core.List.{List}
 use mathlib.Core.Logic.{_↔_}
 use Prim.Native.Nat.{ℕ, _*_, _-_, _≤_}
-use lib.ListN.{length, take, drop}
+use lib.ListN.{length, take}
+use Rattle.buffers.specs.Put.{put}
 use Rattle.transducer.specs.Transition.{InputWord, OutputWord, wordOf, bytesOf}
 use Rattle.transducer.specs.Paths.{reads, Accepting, outputOf, Witness}
 use Rattle.transducer.specs.Alike.{Alike}
@@ -47,7 +48,7 @@ pub record TheOutput (t : Transducer) (input out₀ out : List ℕ) (q : FileTra
   pub output : OutputWord
   pub all-write : (π : List ℕ) (a : Accepting t π) → reads t π ≡ wordOf input → outputOf t a ≡ output
   pub answer : q ≡ record { number = 0; «record» = 0; length = length output }
-  pub written : out ≡ bytesOf output ++ drop (length output) out₀
+  pub written : out ≡ put out₀ 0 (bytesOf output)
 
 -- two answers are the same refusal or the same output (document 01: two refusals are the same if their numbers are, two outputs if their lengths and
 -- codes are)

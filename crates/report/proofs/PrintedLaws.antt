@@ -8,8 +8,7 @@ use mathlib.Core.Logic.{_⊎_, inl, inr}
 use Prim.Native.Nat.{ℕ}
 use native.Mathlib.Decide.{ℕ-discrete}
 use native.Mathlib.Omega.{arith}
-use lib.ListN.{length, length-replicate, drop}
-use lib.Seq.{take-at}
+use lib.ListN.{length, length-replicate}
 use Rattle.transducer.specs.Transition.{bytesOf}
 use Rattle.transducer.specs.Paths.{Functional}
 use Rattle.buffers.specs.Put.{Puts}
@@ -87,8 +86,7 @@ module _ {f input output : List ℕ} where
       outcome : words.refusalOf (tableOf f) input ≡ 0 → Outcome (tableOf f) input lentOutput output v
           → TranslationPrinted f input (answerListing q output)
       outcome z (Outcome.written {y = y} a few fits n k o) =
-          let front = take-at (bytesOf y) (drop (length y) lentOutput) (length y) (length-bytes y) in
-          TranslationPrinted.written t z a (output-answered q output n ∙ rw (k, o, front))
+          TranslationPrinted.written t z a (output-answered q output n ∙ rw (k, o, ← length-bytes y, front-put lentOutput (bytesOf y)))
       outcome z (Outcome.unread never n) =
           TranslationPrinted.unread t z never (refusal-answered q output (λ e. omega arith) ∙ rw n)
       outcome z (Outcome.short a few long n) = absurd (omega (arith, lent-output))

@@ -2,14 +2,16 @@
 -- places 7 is never given, and transducers that are alike are answered alike. Assumes nothing.
 use mathlib.Core.Path.{_≡_, refl, sym, ap, _∙_}
 use mathlib.Core.Bool.{Bool, true, false, cond}
-use mathlib.Core.List.{List, [], _++_}
+use mathlib.Core.List.{List, []}
 use mathlib.Core.Logic.{_≢_, _↔_}
 use Prim.Native.Nat.{ℕ, _≤_, _<_}
 use native.Mathlib.Decide.{ℕ-discrete}
 use native.Mathlib.Omega.{arith}
 use borrow.Author.Tests.{le-leb}
 use lib.Dec.{eqb, leb}
-use lib.ListN.{length, drop, getD}
+use lib.ListN.{length, getD}
+use Rattle.buffers.specs.Put.{put}
+use Rattle.buffers.proofs.PutLaws.{put-none}
 use Rattle.transducer.specs.Limits.{mostCode}
 use Rattle.transducer.specs.Refusals as refusal
 use Rattle.transducer.specs.Transition.{OutputWord, wordOf, bytesOf}
@@ -144,8 +146,8 @@ module _ {t : Transducer} {input out₀ out out₀′ out′ : List ℕ} {r r′
         answer = same-answer r r′ e (refused-length r n ∙ sym (refused-length r′ n′));
         bytes = [];
         size = refused-length r n;
-        one = h .unchanged n;
-        other = h′ .unchanged n′;
+        one = h .unchanged n ∙ sym (put-none out₀ 0);
+        other = h′ .unchanged n′ ∙ sym (put-none out₀′ 0);
       }
 
   -- from two buffers that hold the same outputs a functional transducer gives the same answer
@@ -161,8 +163,8 @@ module _ {t : Transducer} {input out₀ out out₀′ out′ : List ℕ} {r r′
             answer = same-answer r r′ (n ∙ sym n′) (k ∙ sym (k′ ∙ ap length e));
             bytes = bytesOf y;
             size = k ∙ sym (length-bytes y);
-            one = rw (length-bytes y) o;
-            other = rw (length-bytes y) (rw e at o′);
+            one = o;
+            other = rw e at o′;
           }
       outcomes (Outcome.written {y = y} a few fits n k o) (Outcome.short {y = y′} a′ few′ long n′) =
           absurd (omega (arith, to (length y) few fits, ap length (f (wordOf input) y y′ a a′)))
@@ -207,11 +209,11 @@ codes-in-range input h =
 
 pub gives-the-output : {t : Transducer} {input out₀ out : List ℕ} {r : Translation} {y : OutputWord} → Functional t → acceptedOf t ≡ true
     → length input ≤ mostWord → InRange input → mostWritten ≤ length out₀ → Relates t (wordOf input) y → Translated t input out₀ out r
-    → (r ≡ Written (length y)) × (out ≡ bytesOf y ++ drop (length y) out₀)
+    → (r ≡ Written (length y)) × (out ≡ put out₀ 0 (bytesOf y))
 gives-the-output {t} {input} {out₀} {out} {r} {y} f valid short codes room a h =
     outcome (h .answered (refusal-none t input valid short (codes-in-range input codes)))
   where
-    outcome : Outcome t input out₀ out r → (r ≡ Written (length y)) × (out ≡ bytesOf y ++ drop (length y) out₀)
+    outcome : Outcome t input out₀ out r → (r ≡ Written (length y)) × (out ≡ put out₀ 0 (bytesOf y))
     outcome (Outcome.written {y = z} b few fits n k o) =
         let e = f (wordOf input) z y b a in
         (same-answer r (Written (length y)) n (k ∙ ap length e), rw e at o)

@@ -1,14 +1,17 @@
 -- The translator's contract: what it answers and what it leaves in the buffer (document 01, "The translator").
 use mathlib.Core.Path.{_≡_}
-use mathlib.Core.List.{List, _++_}
+use mathlib.Core.List.{List}
 use mathlib.Core.Logic.{_≢_}
 use Prim.Native.Nat.{ℕ, _≤_, _<_}
-use lib.ListN.{length, drop}
+use lib.ListN.{length}
+use Rattle.buffers.specs.Put.{put}
 use Rattle.transducer.specs.Refusals as refusal
 use Rattle.transducer.specs.Transition.{OutputWord, wordOf, bytesOf}
 use Rattle.transducer.specs.Paths.{Relates}
 use Rattle.transducer.specs.declared.Transducer.{Transducer}
+use Rattle.worklist.specs.Search.{Chain}
 use Rattle.wordsearch.specs.Limits.{mostWritten}
+use Rattle.wordsearch.specs.Answers.{writesBack}
 use Rattle.translator.specs.Numbers.{numberOf, lengthOf}
 use Rattle.translator.specs.Words.{refusalOf}
 use Rattle.translator.specs.declared.Translation.{Translation}
@@ -18,7 +21,7 @@ module _ (t : Transducer) (input out₀ out : List ℕ) (r : Translation) where
   pub data Outcome : Type 0 where
     -- the output y of an accepting path that reads the word stands at the front of the buffer; the places beyond hold what they held
     written : {y : OutputWord} → Relates t (wordOf input) y → length y ≤ mostWritten → length y ≤ length out₀
-        → numberOf r ≡ 0 → lengthOf r ≡ length y → out ≡ bytesOf y ++ drop (length y) out₀ → Outcome
+        → numberOf r ≡ 0 → lengthOf r ≡ length y → out ≡ put out₀ 0 (bytesOf y) → Outcome
     -- no accepting path reads the word
     unread : ((y : OutputWord) → Relates t (wordOf input) y → ⊥) → numberOf r ≡ refusal.unread → Outcome
     -- the output y of an accepting path that reads the word is longer than the buffer; with 65,528 places none is
@@ -38,5 +41,16 @@ pub record Same (out₀ out out₀′ out′ : List ℕ) (r r′ : Translation) 
   pub answer : r ≡ r′
   pub bytes : List ℕ
   pub size : lengthOf r ≡ length bytes
-  pub one : out ≡ bytes ++ drop (length bytes) out₀
-  pub other : out′ ≡ bytes ++ drop (length bytes) out₀′
+  pub one : out ≡ put out₀ 0 bytes
+  pub other : out′ ≡ put out₀′ 0 bytes
+
+-- ---- the parts
+
+module _ (t : Transducer) (parent via : List ℕ) (place : ℕ) where
+  -- n is the length of what the transitions write along which the parents lead back from the place
+  abbrev pub Measured : ℕ → Type 0
+  Measured n = (labels : List ℕ) → Chain parent via place labels → n ≡ length (writesBack t labels)
+
+  -- it stands at the front of the buffer
+  abbrev pub WrittenBack : List ℕ → List ℕ → Type 0
+  WrittenBack out₀ out = (labels : List ℕ) → Chain parent via place labels → out ≡ put out₀ 0 (bytesOf (writesBack t labels))

@@ -2,10 +2,9 @@
 // specs/Translated.antt. The path comes from the search of `wordsearch`, last transition first, so that the output is measured on one way back
 // along the search's parents and written, from its end to its beginning, on another.
 ghost use mathlib.Core.Path.{_≡_};
-ghost use mathlib.Core.List.{_++_};
 ghost use Prim.Native.Nat.{_+_, _≤_};
-ghost use lib.ListN.{length, drop};
-ghost use lib.Seq.{sets};
+ghost use lib.ListN.{length};
+ghost use Rattle.buffers.specs.Put.{put};
 ghost use Rattle.transducer.specs.Limits.{mostOutputs};
 ghost use Rattle.transducer.specs.Transition.{writtenBy, bytesOf};
 ghost use Rattle.transducer.specs.Valid.{Valid};
@@ -13,7 +12,7 @@ ghost use Rattle.wordsearch.specs.Limits.{mostNodes};
 ghost use Rattle.wordsearch.specs.Answers.{Traced};
 ghost use Rattle.translator.specs.Numbers.{numberOf, lengthOf};
 ghost use Rattle.translator.specs.Words.{allCodes};
-ghost use Rattle.translator.specs.Translated.{Translated};
+ghost use Rattle.translator.specs.Translated.{Translated, Measured, WrittenBack};
 use transducer::Transducer;
 use transducer::Transition;
 use transducer::refusals;
@@ -106,7 +105,7 @@ fn measure(t: Transducer, parent: &[u32], via: &[u32], place: u32) -> usize
     requires { ⌜ length (now parent) ≡ mostNodes ⌝ }
     requires { ⌜ length (now via) ≡ mostNodes ⌝ }
     requires { ⌜ Traced t (now parent) (now via) place ⌝ }
-    ensures { λ r. ⌜ ((k : Traced t (now (parent .entry)) (now (via .entry)) place) → r ≡ length (k .word)) ⌝ }
+    ensures { λ r. ⌜ Measured t (now (parent .entry)) (now (via .entry)) place r ⌝ }
 {
     let mut total: usize = 0;
     let mut at = place as usize;
@@ -125,9 +124,9 @@ fn write(t: Transducer, parent: &[u32], via: &[u32], place: u32, out: &mut [u8],
     requires { ⌜ length (now parent) ≡ mostNodes ⌝ }
     requires { ⌜ length (now via) ≡ mostNodes ⌝ }
     requires { ⌜ Traced t (now parent) (now via) place ⌝ }
-    requires { ⌜ ((k : Traced t (now parent) (now via) place) → size ≡ length (k .word)) × (size ≤ length (now out)) ⌝ }
-    ensures { λ _. ⌜ ((k : Traced t (now (parent .entry)) (now (via .entry)) place)
-        → now (out .exit) ≡ bytesOf (k .word) ++ drop size (now (out .entry))) ⌝ }
+    requires { ⌜ Measured t (now parent) (now via) place size ⌝ }
+    requires { ⌜ size ≤ length (now out) ⌝ }
+    ensures { λ _. ⌜ WrittenBack t (now (parent .entry)) (now (via .entry)) place (now (out .entry)) (now (out .exit)) ⌝ }
 {
     let mut to = size;
     let mut at = place as usize;
@@ -144,7 +143,7 @@ fn write(t: Transducer, parent: &[u32], via: &[u32], place: u32, out: &mut [u8],
 fn put(v: Transition, out: &mut [u8], at: usize)
     requires { ⌜ v .count ≤ mostOutputs ⌝ }
     requires { ⌜ at + v .count ≤ length (now out) ⌝ }
-    ensures { λ _. ⌜ now (out .exit) ≡ sets (now (out .entry)) at (bytesOf (writtenBy v)) ⌝ }
+    ensures { λ _. ⌜ now (out .exit) ≡ put (now (out .entry)) at (bytesOf (writtenBy v)) ⌝ }
 {
     let n = v.count as usize;
     let mut j = 0;

@@ -1,8 +1,6 @@
 -- The contract of `useful_states` determines its answer. Assumes nothing.
-use mathlib.Core.Path.{_≡_, refl, sym, ap, _∙_}
+use mathlib.Core.Path.{_≡_, refl, sym, _∙_}
 use mathlib.Core.Bool.{Bool, true, false}
-use mathlib.Core.Logic.{_↔_}
-use Prim.Native.Nat.{ℕ}
 use native.Mathlib.Omega.{arith}
 use Rattle.transducer.specs.StateSet.{has}
 use Rattle.transducer.specs.Accepted.{acceptedOf}

@@ -1,7 +1,7 @@
 -- What `useful_states` answers, and what its parts do.
 use mathlib.Core.Path.{_≡_}
 use mathlib.Core.Bool.{true, false, cond}
-use mathlib.Core.List.{List}
+use mathlib.Core.List.{List, []}
 use mathlib.Core.Logic.{_↔_}
 use Prim.Native.Nat.{ℕ, _<_}
 use lib.ListN.{length, getD}
@@ -9,11 +9,11 @@ use Rattle.transducer.specs.Limits.{mostStates}
 use Rattle.transducer.specs.StateSet.{In, noStates}
 use Rattle.transducer.specs.Accepted.{acceptedOf}
 use Rattle.transducer.specs.Refusals.{invalid}
-use Rattle.transducer.specs.Paths.{Path}
 use Rattle.transducer.specs.Useful.{UsefulState}
-use Rattle.transducer.specs.Walks.{Edge}
 use Rattle.transducer.specs.declared.StateSet.{StateSet}
 use Rattle.transducer.specs.declared.Transducer.{Transducer}
+use Rattle.worklist.specs.Search.{Reach}
+use Rattle.wordsearch.specs.Nodes.{Leads}
 use Rattle.useful.specs.declared.Outcome.{Outcome}
 use Rattle.useful.specs.declared.Outcome.the-variants.{Found, Invalid}
 use Rattle.useful.specs.declared.UsefulStates.{UsefulStates}
@@ -32,21 +32,10 @@ pub record UsefulStatesOf (t : Transducer) (r : UsefulStates) : Type 0 where
 
 -- ---- the parts
 
--- transition l leads from u to v: the edges of the search
-abbrev pub Leads : Transducer → ℕ → ℕ → ℕ → Type 0
-Leads t u l v = Edge t l u v
-
--- a path from a start state leads to q
-pub record Accessible (t : Transducer) (q : ℕ) : Type 0 where
-  pub first : ℕ
-  pub front : List ℕ
-  pub starts : In (t .starts) first
-  pub comes : Path t first front q
-
--- the list gives a number other than 0 exactly to the states that are accessible
-pub record Searched (t : Transducer) (rank : List ℕ) : Type 0 where
+-- the list gives a number other than 0 exactly to the states to which transitions of the machine lead from a start state
+pub record Searched (m : List ℕ) (starts : StateSet) (rank : List ℕ) : Type 0 where
   pub long : length rank ≡ mostStates
-  pub members : (q : ℕ) → (0 < getD rank q 0) ↔ Accessible t q
+  pub members : (q : ℕ) → (0 < getD rank q 0) ↔ ((k : ℕ) × Reach (In starts) (Leads false m []) k q)
 
 -- the set has exactly the states to which both lists give a number other than 0
 pub record CommonOf (a b : List ℕ) (r : StateSet) : Type 0 where

@@ -6,18 +6,20 @@ ghost use mathlib.Core.Bool.{_&&_};
 ghost use Prim.Native.Nat.{_<_, _≤_};
 ghost use lib.Dec.{eqb};
 ghost use lib.ListN.{length};
-ghost use Rattle.transducer.specs.Limits.{mostStates};
+ghost use Rattle.transducer.specs.Limits.{mostStates, mostTransitions};
 ghost use Rattle.transducer.specs.StateSet.{In, has};
+ghost use Rattle.transducer.specs.Transition.{wordOf};
 ghost use Rattle.transducer.specs.Valid.{Valid};
 ghost use Rattle.worklist.specs.Lists.{lists};
-ghost use Rattle.worklist.specs.Search.{Grown, Blank, Rooted, Expanded, Working};
+ghost use Rattle.worklist.specs.Search.{Blank, Rooted};
+ghost use Rattle.product.specs.Machine.{mostPlaces, Machine, Leaves};
 ghost use Rattle.wordsearch.specs.Limits.{mostWord, mostNodes};
-ghost use Rattle.wordsearch.specs.Nodes.{positionOf, stateOf, Moves, Leads};
-ghost use Rattle.transducer.specs.Transition.{wordOf};
+ghost use Rattle.wordsearch.specs.Nodes.{positionOf, stateOf, codeOf, Leads, Lent, Ready, Done, Ended};
 ghost use Rattle.wordsearch.specs.Answers.{NodeOf, Answered};
+use product::machine;
+use product::machine::NO_TRANSITION;
 use transducer::StateSet;
 use transducer::Transducer;
-use transducer::Transition;
 
 pub mod limits;
 
@@ -34,11 +36,54 @@ pub fn find(t: Transducer, input: &[u8], parent: &mut [u32], via: &mut [u32]) ->
     requires { ⌜ length (now via) ≡ mostNodes ⌝ }
     ensures { λ r. ⌜ Answered t (now (parent .exit)) (now (via .exit)) (wordOf (now (input .entry))) r ⌝ }
 {
+    let mut m = [0u16; machine::PLACES];
     let mut order = [0u32; limits::NODES];
     let mut rank = [0u32; limits::NODES];
     let starts = t.starts;
-    let n = roots(starts, &mut order, &mut rank, parent, via);
-    close(t, input, &mut order, &mut rank, parent, via, n)
+    let finals = t.finals;
+    machine::by_input(t, &mut m);
+    search(
+        &m,
+        true,
+        starts,
+        finals,
+        input,
+        &mut order,
+        &mut rank,
+        parent,
+        via,
+    )
+}
+
+// Finds the nodes to which transitions lead from the start states, in order, until none is left or one is met where a path ends: its place, or
+// NOWHERE. Where `reading` says no, each transition counts as one that reads nothing.
+pub fn search(
+    m: &[u16],
+    reading: bool,
+    starts: StateSet,
+    finals: StateSet,
+    input: &[u8],
+    order: &mut [u32],
+    rank: &mut [u32],
+    parent: &mut [u32],
+    via: &mut [u32],
+) -> u32
+    requires { ⌜ Lent (now m) (now input) (length (now rank)) ⌝ }
+    requires { ⌜ Blank (length (now rank)) (lists (now order) (now rank) (now parent) (now via) 0) ⌝ }
+    ensures { λ r. ⌜ Ended reading (now (m .entry)) (now (input .entry)) starts finals (length (now (rank .entry)))
+        (now (order .exit)) (now (rank .exit)) (now (parent .exit)) (now (via .exit)) r ⌝ }
+{
+    let mut n = roots(starts, order, rank, parent, via);
+    let mut head: u32 = 0;
+    while head < n {
+        let node = order[head as usize];
+        if ends(finals, input, node) {
+            return head;
+        }
+        n = expand(m, reading, input, order, rank, parent, via, n, head);
+        head += 1;
+    }
+    NOWHERE
 }
 
 // Visits each start state, at the front of the word.
@@ -49,9 +94,10 @@ fn roots(
     parent: &mut [u32],
     via: &mut [u32],
 ) -> u32
-    requires { ⌜ Blank mostNodes (lists (now order) (now rank) (now parent) (now via) 0) ⌝ }
-    ensures { λ n. ⌜ Rooted (In starts) mostNodes
-        (lists (now (order .exit)) (now (rank .exit)) (now (parent .exit)) (now (via .exit)) n) mostNodes ⌝ }
+    requires { ⌜ mostStates ≤ length (now rank) ⌝ }
+    requires { ⌜ Blank (length (now rank)) (lists (now order) (now rank) (now parent) (now via) 0) ⌝ }
+    ensures { λ n. ⌜ Rooted (In starts) (length (now (rank .entry)))
+        (lists (now (order .exit)) (now (rank .exit)) (now (parent .exit)) (now (via .exit)) n) (length (now (rank .entry))) ⌝ }
 {
     let mut n: u32 = 0;
     let mut q: u32 = 0;
@@ -64,36 +110,6 @@ fn roots(
     n
 }
 
-// Expands each node found, in order, until none is left or one is met where an accepting path ends: its place, or NOWHERE.
-fn close(
-    t: Transducer,
-    input: &[u8],
-    order: &mut [u32],
-    rank: &mut [u32],
-    parent: &mut [u32],
-    via: &mut [u32],
-    count: u32,
-) -> u32
-    requires { ⌜ Valid t ⌝ }
-    requires { ⌜ length (now input) ≤ mostWord ⌝ }
-    requires { ⌜ Working (In (t .starts)) (Leads t (wordOf (now input))) mostNodes
-        (lists (now order) (now rank) (now parent) (now via) count) 0 ⌝ }
-    ensures { λ r. ⌜ Answered t (now (parent .exit)) (now (via .exit)) (wordOf (now (input .entry))) r ⌝ }
-{
-    let finals = t.finals;
-    let mut n = count;
-    let mut head: u32 = 0;
-    while head < n {
-        let node = order[head as usize];
-        if ends(finals, input, node) {
-            return head;
-        }
-        n = expand(t, input, order, rank, parent, via, n, head);
-        head += 1;
-    }
-    NOWHERE
-}
-
 // Whether the node is one where an accepting path ends: the word's end and a final state.
 fn ends(finals: StateSet, input: &[u8], node: u32) -> bool
     ensures { λ r. ⌜ r ≡ (eqb (positionOf node) (length (now (input .entry))) && has finals (stateOf node)) ⌝ }
@@ -103,7 +119,8 @@ fn ends(finals: StateSet, input: &[u8], node: u32) -> bool
 
 // Visits each node to which a transition leads from the node at the place `head`.
 fn expand(
-    t: Transducer,
+    m: &[u16],
+    reading: bool,
     input: &[u8],
     order: &mut [u32],
     rank: &mut [u32],
@@ -112,49 +129,57 @@ fn expand(
     count: u32,
     head: u32,
 ) -> u32
-    requires { ⌜ Valid t ⌝ }
-    requires { ⌜ length (now input) ≤ mostWord ⌝ }
-    requires { ⌜ Grown (In (t .starts)) (Leads t (wordOf (now input))) mostNodes
-        (lists (now order) (now rank) (now parent) (now via) count) ⌝ }
-    requires { ⌜ head < count ⌝ }
-    ensures { λ n. ⌜ Expanded (In (t .starts)) (Leads t (wordOf (now (input .entry)))) mostNodes
+    requires { ⌜ Lent (now m) (now input) (length (now rank)) ⌝ }
+    requires { ⌜ Ready reading (now m) (now input) (length (now rank)) (lists (now order) (now rank) (now parent) (now via) count) head ⌝ }
+    ensures { λ n. ⌜ Done reading (now (m .entry)) (now (input .entry)) (length (now (rank .entry)))
         (lists (now (order .entry)) (now (rank .entry)) (now (parent .entry)) (now (via .entry)) count)
         (lists (now (order .exit)) (now (rank .exit)) (now (parent .exit)) (now (via .exit)) n) head ⌝ }
 {
     let node = order[head as usize];
     let mut n = count;
-    let mut l: u16 = 0;
-    while l < t.count {
-        let x = t.transitions[l as usize];
-        let next = target(x, input, node);
+    let mut l = machine::head(m, node % STATES);
+    while l < NO_TRANSITION {
+        let next = target(m, reading, input, node, l);
         if next < NOWHERE {
             n = worklist::visit(order, rank, parent, via, n, next, head + 1, l as u32);
         }
-        l += 1;
+        l = machine::next(m, l);
     }
     n
 }
 
-// The node to which the transition x leads from `node`, or NOWHERE where it leads nowhere: one that reads nothing stays at its position, any
-// other needs its code there and goes on by one.
-fn target(x: Transition, input: &[u8], node: u32) -> u32
-    requires { ⌜ x .to < mostStates ⌝ }
+// The node to which transition l leads from `node`, whose state it leaves, or NOWHERE where it leads nowhere: one that reads nothing stays at its
+// position, any other needs its code there and goes on by one.
+fn target(m: &[u16], reading: bool, input: &[u8], node: u32, l: u16) -> u32
+    requires { ⌜ Machine (now m) ⌝ }
     requires { ⌜ length (now input) ≤ mostWord ⌝ }
     requires { ⌜ node < mostNodes ⌝ }
-    ensures { λ r. ⌜ NodeOf (Moves x (wordOf (now (input .entry))) node) r ⌝ }
+    requires { ⌜ Leaves (now m) l (stateOf node) ⌝ }
+    ensures { λ r. ⌜ NodeOf (Leads reading (now (m .entry)) (now (input .entry)) node l) r ⌝ }
 {
-    if x.from as u32 != node % STATES {
-        return NOWHERE;
-    }
+    let to = machine::to(m, l) as u32;
+    let read = code(m, reading, l);
     let position = (node / STATES) as usize;
-    if x.input.0 == 0 {
-        return node / STATES * STATES + x.to as u32;
+    if read == 0 {
+        return node / STATES * STATES + to;
     }
     if input.len() <= position {
         return NOWHERE;
     }
-    if input[position] != x.input.0 {
+    if input[position] as u16 != read {
         return NOWHERE;
     }
-    (node / STATES + 1) * STATES + x.to as u32
+    (node / STATES + 1) * STATES + to
+}
+
+// The code that transition l reads; 0 where it reads nothing.
+fn code(m: &[u16], reading: bool, l: u16) -> u16
+    requires { ⌜ length (now m) ≡ mostPlaces ⌝ }
+    requires { ⌜ l < mostTransitions ⌝ }
+    ensures { λ r. ⌜ r ≡ codeOf reading (now (m .entry)) l ⌝ }
+{
+    if reading {
+        return machine::key(m, l);
+    }
+    0
 }

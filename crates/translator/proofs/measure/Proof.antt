@@ -1,17 +1,19 @@
 -- `measure` meets its contract. The loop's invariant: what is counted and the length of what is left are together the length of the word.
 -- Assumes nothing.
 use mathlib.Core.Path.{_≡_, ap}
-use Prim.Native.Nat.{_+_}
+use mathlib.Core.List.{List}
+use Prim.Native.Nat.{ℕ, _+_}
 use native.Mathlib.Omega.{arith}
 use lib.ListN.{length}
-use Rattle.wordsearch.specs.Answers.{Traced}
-use Rattle.wordsearch.proofs.TraceLaws.{Stepped, traced-once, traced-end, traced-step, stepped-length}
+use Rattle.worklist.proofs.WayBack.{chain-unique}
+use Rattle.wordsearch.specs.Answers.{writesBack, Traced}
+use Rattle.wordsearch.proofs.TraceLaws.{Stepped, traced-end, traced-step, stepped-length}
 use Rattle.translator.proofs.measure.Statement.{statement}
 use Rattle.translator.proofs.measure.Tie as tie
 
 abbrev Inv-loop : tie.InvT-loop
 Inv-loop parent via place t total₀ at₀ total at =
-    (k : Traced t parent via place) × (m : Traced t parent via at) × (total + length (m .word) ≡ length (k .word))
+    (k : Traced t parent via place) × (m : Traced t parent via at) × (total + length (writesBack t (m .labels)) ≡ length (writesBack t (k .labels)))
 
 abbrev μ-loop : tie.MeasureT-loop
 μ-loop parent via place t total₀ at₀ total at = at
@@ -76,7 +78,10 @@ loop-again c =
 returns : tie.Need-returns Inv-loop μ-loop
 returns c =
     let i = c .before .before .loop .inv in
-    λ k. omega (arith, i .2, ap length (traced-end (i .1) (c .if1 .left)), ap length (traced-once (i .0) k))
+    let t = c .before .before .before .args .t1 in
+    λ labels chain.
+    let size : List ℕ → ℕ = λ ls. length (writesBack t ls) in
+    omega (arith, i .2, ap size (traced-end (i .1) (c .if1 .left)), ap size (chain-unique (i .0 .chain) chain))
 
 pub measure-spec : {M : Type 1} → statement M
 measure-spec =

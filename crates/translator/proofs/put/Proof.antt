@@ -4,14 +4,13 @@ use Prim.Native.Nat.{_≤_, _-_}
 use native.Mathlib.Omega.{arith}
 use borrow.Author.Needs.{needs}
 use lib.ListN.{length, length-set}
-use lib.Seq.{sets}
-use Rattle.transducer.specs.Transition.{firsts, outputAt, bytesOf}
-use Rattle.translator.proofs.BufferLaws.{put-none, put-more}
+use Rattle.buffers.specs.Put.{put}
+use Rattle.translator.proofs.BufferLaws.{codes, put-no-code, put-code}
 use Rattle.translator.proofs.put.Statement.{statement}
 use Rattle.translator.proofs.put.Tie as tie
 
 abbrev Inv-loop : tie.InvT-loop
-Inv-loop out₀ at v n j₀ out j = (j ≤ n) × (length out ≡ length out₀) × (out ≡ sets out₀ at (bytesOf (firsts j (outputAt v))))
+Inv-loop out₀ at v n j₀ out j = (j ≤ n) × (length out ≡ length out₀) × (out ≡ put out₀ at (codes out₀ at v j))
 
 abbrev μ-loop : tie.MeasureT-loop
 μ-loop out₀ at v n j₀ out j = n - j
@@ -20,7 +19,7 @@ cast-n : tie.Need-cast-n Inv-loop μ-loop
 cast-n c = search needs
 
 loop-holds : tie.Need-loop-holds Inv-loop μ-loop
-loop-holds c = let a = c .args in (omega arith, refl, put-none (a .out .now) (a .at) (a .t1))
+loop-holds c = let a = c .args in (omega arith, refl, put-no-code (a .out .now) (a .at) (a .t1))
 
 element-copy-out-out : tie.Need-element-copy-out-out Inv-loop μ-loop
 element-copy-out-out c = omega arith
@@ -41,7 +40,7 @@ loop-again : tie.Need-loop-again Inv-loop μ-loop
 loop-again c =
     let l = c .before .loop in
     let a = c .before .before .args in
-    (omega arith, simp length-set (l .inv .1), rw (l .inv .2) (put-more (a .out .now) (a .at) (a .t1) (l .j)))
+    (omega arith, simp length-set (l .inv .1), rw (l .inv .2) (put-code (a .out .now) (a .at) (a .t1) (l .j) (omega arith)))
 
 same-length : tie.Need-same-length Inv-loop μ-loop
 same-length c = c .before .loop .inv .1
@@ -51,7 +50,7 @@ returns c =
     let l = c .before .loop in
     let a = c .before .before .args in
     let e : l .j ≡ a .t1 .count = omega arith in
-    l .inv .2 ∙ ap (λ k. sets (a .out .now) (a .at) (bytesOf (firsts k (outputAt (a .t1))))) e
+    l .inv .2 ∙ ap (λ k. put (a .out .now) (a .at) (codes (a .out .now) (a .at) (a .t1) k)) e
 
 pub put-spec : {M : Type 1} → statement M
 put-spec =

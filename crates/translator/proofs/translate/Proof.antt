@@ -15,17 +15,42 @@ use Rattle.translator.proofs.RefusalLaws.{refusal-invalid, refusal-long
 use Rattle.translator.proofs.translate.Statement.{statement}
 use Rattle.translator.proofs.translate.Tie as tie
 
--- past the first test the transducer is valid
-is-valid : (c : tie.Else1) → acceptedOf (c .before .before .before .before .args .t) ≡ true
-is-valid c = sym (c .before .accepted .ensures .answer) ∙ not-false _ (c .if1 .left)
+-- ---- places: past the tests, the search and what comes after it
 
-facts : (c : tie.Else1) → Valid (c .before .before .before .before .args .t)
-facts c = accepted-valid _ (is-valid c)
+abbrev start : tie.Else1 → tie.Start
+start c = c .before .before .before .before
+
+abbrev first : tie.Else3 → tie.Else1
+first c = c .before .before .before
+
+abbrev third : tie.After-find → tie.Else3
+third c = c .before .before .before
+
+abbrev searched : tie.Else4 → tie.After-find
+searched c = c .before .before .before
+
+abbrev found : tie.After-measure → tie.Else4
+found c = c .before .before .before
+
+abbrev measured : tie.After-write-arg → tie.After-measure
+measured c = c .before .before .before .before
+
+abbrev written : tie.After-slice-known2 → tie.After-write
+written c = c .before .before
+
+-- past the first test the transducer is valid
+is-accepted : (c : tie.Else1) → acceptedOf (start c .args .t) ≡ true
+is-accepted c = sym (c .before .accepted .ensures .answer) ∙ not-false _ (c .if1 .left)
+
+facts : (c : tie.Else1) → Valid (start c .args .t)
+facts c = accepted-valid _ (is-accepted c)
 
 -- past the third test the word is not refused
-passes : (c : tie.Else3) → let a = c .before .before .before .before .before .before .before .args in refusalOf (a .t) (a .input .now) ≡ 0
+passes : (c : tie.Else3) → let a = start (first c) .args in refusalOf (a .t) (a .input .now) ≡ 0
 passes c =
-    refusal-none _ _ (is-valid (c .before .before .before)) (c .before .before .if2 .left) (sym (c .before .codes-ok .ensures) ∙ not-false _ (c .if3 .left))
+    refusal-none _ _ (is-accepted (first c)) (c .before .before .if2 .left) (sym (c .before .codes-ok .ensures) ∙ not-false _ (c .if3 .left))
+
+-- ---- needs
 
 accepted-requires : tie.Need-accepted-requires
 accepted-requires c κs = search needs
@@ -34,7 +59,7 @@ returns : tie.Need-returns
 returns c = refuses (refusal-invalid _ _ (sym (c .before .accepted .ensures .answer) ∙ not-true _ (c .if1 .taken))) (λ z. omega arith)
 
 returns-2 : tie.Need-returns-2
-returns-2 c = refuses (refusal-long _ _ (is-valid (c .before)) (c .if2 .taken)) (λ z. omega arith)
+returns-2 c = refuses (refusal-long _ _ (is-accepted (c .before)) (c .if2 .taken)) (λ z. omega arith)
 
 codes-ok-requires : tie.Need-codes-ok-requires
 codes-ok-requires c κs = search needs
@@ -42,7 +67,7 @@ codes-ok-requires c κs = search needs
 returns-3 : tie.Need-returns-3
 returns-3 c =
     refuses
-    (refusal-code _ _ (is-valid (c .before .before .before)) (c .before .before .if2 .left)
+    (refusal-code _ _ (is-accepted (c .before .before .before)) (c .before .before .if2 .left)
     (sym (c .before .codes-ok .ensures) ∙ not-true _ (c .if3 .taken)))
     (λ z. omega arith)
 
@@ -58,7 +83,7 @@ find-requires c κs = let e = c .before .before .before .before in (facts (e .be
 returns-4 : tie.Need-returns-4
 returns-4 c =
     let e = c .before .before .before in
-    answers (passes (e .before .before .before)) (Outcome.unread (answered-unread (e .find .ensures) (c .if4 .taken)) refl) (λ _. refl)
+    answers (passes (third e)) (Outcome.unread (answered-unread (e .find .ensures) (c .if4 .taken)) refl) (λ _. refl)
 
 slice-aggregate-measure : tie.Need-slice-aggregate-measure
 slice-aggregate-measure c = search needs
@@ -69,15 +94,16 @@ slice-aggregate-measure-2 c = search needs
 measure-requires : tie.Need-measure-requires
 measure-requires c κs =
     let e = c .before .before in
-    let f = answered-found (e .before .before .before .find .ensures) (e .if4 .left) in
-    (facts (e .before .before .before .before .before .before .before .before .before), (search needs, (search needs, f .0)))
+    let k = answered-found (searched e .find .ensures) (e .if4 .left) .0 in
+    (facts (first (third (searched e))), (search needs, (search needs, k)))
 
 returns-5 : tie.Need-returns-5
 returns-5 c =
-    let e = c .before .before .before .before in
-    let f = answered-found (e .before .before .before .find .ensures) (e .if4 .left) in
-    answers (passes (e .before .before .before .before .before .before))
-    (Outcome.short (f .1) (f .0 .few) (omega (arith, c .if5 .taken, c .before .measure .ensures (f .0))) refl)
+    let m = c .before in
+    let e = found m in
+    let f = answered-found (searched e .find .ensures) (e .if4 .left) in
+    answers (passes (third (searched e)))
+    (Outcome.short (f .2) (f .0 .few) (omega (arith, c .if5 .taken, m .measure .ensures (f .0 .labels) (f .0 .chain))) refl)
     (λ _. refl)
 
 slice-aggregate-write : tie.Need-slice-aggregate-write
@@ -88,22 +114,25 @@ slice-aggregate-write-2 c = search needs
 
 write-requires : tie.Need-write-requires
 write-requires c κs =
-    let m = c .before .before .before in
-    let e = m .before .before .before .before in
-    let f = answered-found (e .before .before .before .find .ensures) (e .if4 .left) in
-    (facts (e .before .before .before .before .before .before .before .before .before), (search needs, (search needs, (f .0, (m .before .measure .ensures, m .if5 .left)))))
+    let m = measured c in
+    let e = found m in
+    let k = answered-found (searched e .find .ensures) (e .if4 .left) .0 in
+    (facts (first (third (searched e))), (search needs, (search needs, (k, (m .measure .ensures, c .before .before .before .if5 .left)))))
 
 same-length : tie.Need-same-length
 same-length c = search needs
 
 returns-6 : tie.Need-returns-6
 returns-6 c =
-    let m = c .before .before .before .before .before .before in
-    let e = m .before .before .before .before in
-    let f = answered-found (e .before .before .before .find .ensures) (e .if4 .left) in
-    let n = m .before .measure .ensures (f .0) in
-    answers (passes (e .before .before .before .before .before .before))
-    (Outcome.written (f .1) (f .0 .few) (omega (arith, n, m .if5 .left)) refl n (rw n at (c .before .before .write .ensures (f .0))))
+    let w = written c in
+    let m = measured (w .before) in
+    let e = found m in
+    let f = answered-found (searched e .find .ensures) (e .if4 .left) in
+    let k = f .0 in
+    let n = m .measure .ensures (k .labels) (k .chain) in
+    answers (passes (third (searched e)))
+    (Outcome.written (f .2) (k .few) (omega (arith, n, w .before .before .before .before .if5 .left)) refl n
+    (w .write .ensures (k .labels) (k .chain)))
     (λ z. absurd (z refl))
 
 pub translate-spec : {M : Type 1} → statement M

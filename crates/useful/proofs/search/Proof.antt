@@ -1,54 +1,73 @@
--- `search` meets its contract: the roots, then the loop over the places; what is found is what is accessible. Assumes nothing.
+-- `search` meets its contract: what the search over the nodes of the empty word finds is what it asks for. Assumes nothing.
+use mathlib.Core.Path.{refl, ap, _∙_}
+use Prim.Native.Nat.{ℕ}
+use native.Mathlib.Omega.{arith}
 use borrow.Author.Needs.{needs}
-use Rattle.worklist.proofs.Stages.{working-none}
-use Rattle.transducer.proofs.Facts.{in-below}
+use lib.ListN.{length, length-replicate}
+use Rattle.transducer.specs.Limits.{mostStates}
 use Rattle.useful.proofs.Accessible.{searched}
 use Rattle.useful.proofs.search.Statement.{statement}
 use Rattle.useful.proofs.search.Tie as tie
 
-slice-aggregate-roots : tie.Need-slice-aggregate-roots
-slice-aggregate-roots c = search needs
+-- ---- places: the empty set, the search
 
-slice-aggregate-roots-2 : tie.Need-slice-aggregate-roots-2
-slice-aggregate-roots-2 c = search needs
+abbrev empty : tie.After-via → tie.After-empty
+empty c = c .before .before .before .before .before
 
-slice-aggregate-roots-3 : tie.Need-slice-aggregate-roots-3
-slice-aggregate-roots-3 c = search needs
+abbrev found : tie.After-via2 → tie.After-search
+found c = c .before .before .before .before .before
 
-roots-requires : tie.Need-roots-requires
-roots-requires c κs = search needs
+-- ---- needs
 
-slice-aggregate-close : tie.Need-slice-aggregate-close
-slice-aggregate-close c = search needs
+empty-requires : tie.Need-empty-requires
+empty-requires c κs = search needs
 
-slice-aggregate-close-2 : tie.Need-slice-aggregate-close-2
-slice-aggregate-close-2 c = search needs
+slice-aggregate-search : tie.Need-slice-aggregate-search
+slice-aggregate-search c = search needs
 
-slice-aggregate-close-3 : tie.Need-slice-aggregate-close-3
-slice-aggregate-close-3 c = search needs
+slice-aggregate-search-2 : tie.Need-slice-aggregate-search-2
+slice-aggregate-search-2 c = search needs
 
-close-requires : tie.Need-close-requires
-close-requires c κs =
-    let a = c .before .before .before .before .before .before .before .before .before .before .before .before .before .before .before .before in
-    (a .pre .0, working-none (c .before .before .before .before .before .before .before .before .before .roots .ensures) (in-below (a .args .t .starts)))
+slice-aggregate-search-3 : tie.Need-slice-aggregate-search-3
+slice-aggregate-search-3 c = search needs
+
+slice-aggregate-search-4 : tie.Need-slice-aggregate-search-4
+slice-aggregate-search-4 c = search needs
+
+search-requires : tie.Need-search-requires
+search-requires c κs =
+    let p = empty c .before .before .before .pre in
+    let long = ap length (p .1) ∙ length-replicate {A = ℕ} mostStates 0 in
+    rw long (
+      record { machine = p .0; short = omega arith; room = omega arith; whole = refl; most = omega arith },
+      record {
+        order = length-replicate {A = ℕ} mostStates 0;
+        rank = p .1;
+        parent = length-replicate {A = ℕ} mostStates 0;
+        via = length-replicate {A = ℕ} mostStates 0;
+        count = refl;
+        small = omega arith;
+      },
+    )
 
 same-length : tie.Need-same-length
 same-length c = search needs
 
 returns : tie.Need-returns
-returns c = searched (c .before .before .before .before .before .close .ensures)
+returns c =
+    let s = found c in
+    let e = empty (s .before) in
+    searched (e .empty .ensures) (ap length (e .before .before .before .pre .1) ∙ length-replicate {A = ℕ} mostStates 0) (s .search .ensures)
 
 pub search-spec : {M : Type 1} → statement M
 search-spec =
     tie.close
     (tie.spec
-    slice-aggregate-roots
-    slice-aggregate-roots-2
-    slice-aggregate-roots-3
-    roots-requires
-    slice-aggregate-close
-    slice-aggregate-close-2
-    slice-aggregate-close-3
-    close-requires
+    empty-requires
+    slice-aggregate-search
+    slice-aggregate-search-2
+    slice-aggregate-search-3
+    slice-aggregate-search-4
+    search-requires
     same-length
     returns)

@@ -5,16 +5,30 @@ use Prim.Native.Nat.{ℕ}
 use native.Mathlib.Omega.{arith}
 use borrow.Author.Needs.{needs}
 use borrow.Author.Tests.{not-true, not-false}
-use Rattle.transducer.specs.Valid.{Valid}
+use lib.ListN.{length-replicate}
 use Rattle.transducer.specs.Accepted.{acceptedOf}
-use Rattle.transducer.specs.Reversal.{reversedOf}
-use Rattle.transducer.specs.declared.Transducer.{Transducer}
+use Rattle.transducer.specs.Valid.{Valid}
 use Rattle.transducer.proofs.AcceptedLaws.{accepted-valid}
-use Rattle.transducer.proofs.ReversalLaws.{reversed-valid}
-use Rattle.useful.specs.UsefulStates.{Searched}
 use Rattle.useful.proofs.Accessible.{useful-members}
 use Rattle.useful.proofs.useful_states.Statement.{statement}
 use Rattle.useful.proofs.useful_states.Tie as tie
+
+-- ---- places: past the test, the machine and what is searched with it, the reversed machine and what is searched with it
+
+abbrev passed : tie.After-m → tie.Else1
+passed c = c .before .before .before
+
+abbrev written : tie.After-into → tie.After-by-input
+written c = c .before .before .before
+
+abbrev forward : tie.After-m4 → tie.After-search
+forward c = c .before .before
+
+abbrev reversed : tie.After-out → tie.After-by-input-reversed
+reversed c = c .before .before .before
+
+abbrev backward : tie.After-common → tie.After-search2
+backward c = c .before .before .before .before
 
 -- what the test of the value says on each side of the branch
 tested : {a b : Bool} → a ≡ b → not a ≡ false → b ≡ true
@@ -26,8 +40,13 @@ invalid p q = sym p ∙ not-true _ q
 clash : {a : Bool} → a ≡ true → a ≡ false → ⊥
 clash p q = let z : _≡_ {A = ℕ} 0 1 = cc in omega arith
 
-is-valid : (t : Transducer) {a : Bool} → a ≡ acceptedOf t → not a ≡ false → Valid t
-is-valid t p q = accepted-valid t (tested p q)
+is-accepted : (c : tie.Else1) → acceptedOf (c .before .before .args .t) ≡ true
+is-accepted c = tested (c .before .accepted .ensures .answer) (c .if1 .left)
+
+facts : (c : tie.Else1) → Valid (c .before .before .args .t)
+facts c = accepted-valid _ (is-accepted c)
+
+-- ---- needs
 
 accepted-requires : tie.Need-accepted-requires
 accepted-requires c κs = search needs
@@ -45,22 +64,37 @@ returns c =
       long = rw (c .empty .ensures);
     }
 
+slice-aggregate-by-input : tie.Need-slice-aggregate-by-input
+slice-aggregate-by-input c = search needs
+
+by-input-requires : tie.Need-by-input-requires
+by-input-requires c κs = (facts (passed c), length-replicate {A = ℕ} _ 0)
+
 slice-aggregate-search : tie.Need-slice-aggregate-search
 slice-aggregate-search c = search needs
-
-search-requires : tie.Need-search-requires
-search-requires c κs = (is-valid _ (c .before .before .accepted .ensures .answer) (c .before .if1 .left), refl)
-
-reversed-requires : tie.Need-reversed-requires
-reversed-requires c κs = search needs
 
 slice-aggregate-search-2 : tie.Need-slice-aggregate-search-2
 slice-aggregate-search-2 c = search needs
 
+search-requires : tie.Need-search-requires
+search-requires c κs = (written c .by-input .ensures .machine, refl)
+
+slice-aggregate-by-input-reversed : tie.Need-slice-aggregate-by-input-reversed
+slice-aggregate-by-input-reversed c = search needs
+
+by-input-reversed-requires : tie.Need-by-input-reversed-requires
+by-input-reversed-requires c κs =
+    let w = written (forward c .before) in
+    (facts (passed (w .before)), w .by-input .ensures .machine .long)
+
+slice-aggregate-search-3 : tie.Need-slice-aggregate-search-3
+slice-aggregate-search-3 c = search needs
+
+slice-aggregate-search-4 : tie.Need-slice-aggregate-search-4
+slice-aggregate-search-4 c = search needs
+
 search-requires-2 : tie.Need-search-requires-2
-search-requires-2 c κs =
-    let i = c .before .before .before .before .before in
-    (rw (c .before .reversed .ensures) (reversed-valid _ (is-valid _ (i .before .accepted .ensures .answer) (i .if1 .left))), refl)
+search-requires-2 c κs = (reversed c .by-input-reversed .ensures .machine, refl)
 
 slice-aggregate-common : tie.Need-slice-aggregate-common
 slice-aggregate-common c = search needs
@@ -73,15 +107,16 @@ common-requires c κs = search needs
 
 returns-2 : tie.Need-returns-2
 returns-2 c =
-    let i = c .before .before .before .before .before .before .before .before .before .before in
-    let t = i .before .before .args .t in
-    let e = tested (i .before .accepted .ensures .answer) (i .if1 .left) in
-    let there = c .before .before .before .before .before .before .before .before .search .ensures in
-    let back : Searched (reversedOf t) _ = rw (c .before .before .before .before .before .before .reversed .ensures) at (c .before .before .before .before .search2 .ensures) in
+    let b = backward c in
+    let r = reversed (b .before) in
+    let f = forward (r .before) in
+    let w = written (f .before) in
+    let e = is-accepted (passed (w .before)) in
     record {
       number = rw e;
       refused = λ h. absurd (clash e h);
-      members = λ _. useful-members there back (c .common .ensures);
+      members = λ _.
+          useful-members (w .by-input .ensures) (f .search .ensures) (r .by-input-reversed .ensures) (b .search2 .ensures) (c .common .ensures);
       long = c .common .ensures .long;
     }
 
@@ -92,10 +127,15 @@ useful-states-spec =
     accepted-requires
     empty-requires
     returns
+    slice-aggregate-by-input
+    by-input-requires
     slice-aggregate-search
-    search-requires
-    reversed-requires
     slice-aggregate-search-2
+    search-requires
+    slice-aggregate-by-input-reversed
+    by-input-reversed-requires
+    slice-aggregate-search-3
+    slice-aggregate-search-4
     search-requires-2
     slice-aggregate-common
     slice-aggregate-common-2

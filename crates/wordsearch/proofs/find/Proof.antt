@@ -1,44 +1,58 @@
--- `find` meets its contract: its own lists are blank, and the search goes from the start states to its answer. Assumes nothing.
+-- `find` meets its contract: the machine is that of t, the search's own lists are blank, and however the search ends, that is the answer. Assumes
+-- nothing.
 use mathlib.Core.Path.{refl}
 use Prim.Native.Nat.{ℕ}
 use native.Mathlib.Omega.{arith}
 use borrow.Author.Needs.{needs}
 use lib.ListN.{length-replicate}
-use Rattle.transducer.proofs.Facts.{in-below}
-use Rattle.worklist.proofs.Stages.{working-none}
 use Rattle.wordsearch.specs.Limits.{mostNodes}
+use Rattle.wordsearch.proofs.AnswerLaws.{answered}
 use Rattle.wordsearch.proofs.find.Statement.{statement}
 use Rattle.wordsearch.proofs.find.Tie as tie
 
-slice-aggregate-roots : tie.Need-slice-aggregate-roots
-slice-aggregate-roots c = search needs
+-- ---- places: the start, the machine, the end of the search
 
-slice-aggregate-roots-2 : tie.Need-slice-aggregate-roots-2
-slice-aggregate-roots-2 c = search needs
+abbrev start : tie.After-m → tie.Start
+start c = c .before .before .before .before .before .before
 
-roots-requires : tie.Need-roots-requires
-roots-requires c κs =
-    let a = c .before .before .before .before .before .before .before .before .pre in
-    record {
-      order = length-replicate {A = ℕ} mostNodes 0;
-      rank = refl;
-      parent = a .1 .1 .0;
-      via = a .1 .1 .1;
-      count = refl;
-      small = omega arith;
-    }
+abbrev written : tie.After-search-arg2 → tie.After-by-input
+written c = c .before .before .before .before .before .before
 
-slice-aggregate-close : tie.Need-slice-aggregate-close
-slice-aggregate-close c = search needs
+abbrev searched : tie.After-slice-known4 → tie.After-search
+searched c = c .before .before .before .before .before .before
 
-slice-aggregate-close-2 : tie.Need-slice-aggregate-close-2
-slice-aggregate-close-2 c = search needs
+-- ---- needs
 
-close-requires : tie.Need-close-requires
-close-requires c κs =
-    let b = c .before .before .before .before .before .before .before .before .before .before in
-    let a = b .before .before .before .before .before .before .before .before .before in
-    (a .pre .0, (a .pre .1 .0, working-none (b .roots .ensures) (λ v z. omega (arith, in-below (a .args .t .starts) v z))))
+slice-aggregate-by-input : tie.Need-slice-aggregate-by-input
+slice-aggregate-by-input c = search needs
+
+by-input-requires : tie.Need-by-input-requires
+by-input-requires c κs = (start c .pre .0, length-replicate {A = ℕ} _ 0)
+
+slice-aggregate-search : tie.Need-slice-aggregate-search
+slice-aggregate-search c = search needs
+
+slice-aggregate-search-2 : tie.Need-slice-aggregate-search-2
+slice-aggregate-search-2 c = search needs
+
+slice-aggregate-search-3 : tie.Need-slice-aggregate-search-3
+slice-aggregate-search-3 c = search needs
+
+search-requires : tie.Need-search-requires
+search-requires c κs =
+    let w = written c in
+    let p = start (w .before) .pre in
+    rw (length-replicate {A = ℕ} mostNodes 0) (
+      record { machine = w .by-input .ensures .machine; short = p .1 .0; room = omega (arith, p .1 .0); whole = refl; most = omega arith },
+      record {
+        order = length-replicate {A = ℕ} mostNodes 0;
+        rank = refl;
+        parent = p .1 .1 .0;
+        via = p .1 .1 .1;
+        count = refl;
+        small = omega arith;
+      },
+    )
 
 same-length : tie.Need-same-length
 same-length c = search needs
@@ -47,18 +61,21 @@ same-length-2 : tie.Need-same-length-2
 same-length-2 c = search needs
 
 returns : tie.Need-returns
-returns c = search needs
+returns c =
+    let s = searched c in
+    let w = written (s .before) in
+    answered (start (w .before) .pre .0) (w .by-input .ensures) (omega (arith, length-replicate {A = ℕ} mostNodes 0)) (s .search .ensures)
 
 pub find-spec : {M : Type 1} → statement M
 find-spec =
     tie.close
     (tie.spec
-    slice-aggregate-roots
-    slice-aggregate-roots-2
-    roots-requires
-    slice-aggregate-close
-    slice-aggregate-close-2
-    close-requires
+    slice-aggregate-by-input
+    by-input-requires
+    slice-aggregate-search
+    slice-aggregate-search-2
+    slice-aggregate-search-3
+    search-requires
     same-length
     same-length-2
     returns)
