@@ -8,7 +8,6 @@ ghost use Rattle.transducer.specs.Accepted.{Asked};
 
 pub mod limits;
 pub mod refusals;
-pub mod reversal;
 pub mod validity;
 
 // A code of the input alphabet, 1 to 250; in a transition 0 means that it reads nothing.
