@@ -1,4 +1,5 @@
 // The test of a transducer's rules (specs/Valid.antt), from one place of an output up to the whole value.
+ghost use mathlib.Core.Bool.{cond, _&&_};
 ghost use mathlib.Core.Path.{_≡_};
 ghost use Prim.Native.Nat.{ℕ, _<_};
 ghost use lib.ListN.{length};
@@ -42,23 +43,24 @@ fn places_ok(t: Transducer) -> bool
     ensures { λ r. ⌜ r ≡ allBelow mostTransitions (placeOf t) ⌝ }
     ensures { λ _. ⌜ ((l : ℕ) → l < mostTransitions → length (at t l .output) ≡ mostOutputs) ⌝ }
 {
+    let states = t.states;
+    let count = t.count as usize;
     let mut ok = true;
     for l in 0..limits::TRANSITIONS {
-        ok = ok & place_ok(t, l);
+        let v = t.transitions[l];
+        ok = ok & place_ok(states, l < count, v);
     }
     ok
 }
 
-// Whether transition l of t is as it should be: below the count one in use, from there on one that is not.
-fn place_ok(t: Transducer, l: usize) -> bool
-    requires { ⌜ l < mostTransitions ⌝ }
-    ensures { λ r. ⌜ r ≡ placeOf t l ⌝ }
-    ensures { λ _. ⌜ length (at t l .output) ≡ mostOutputs ⌝ }
+// Whether the transition v is as it should be among n states: one in use if `used` says so, else one that is not.
+fn place_ok(n: u8, used: bool, v: Transition) -> bool
+    ensures { λ r. ⌜ r ≡ (cond used (usedOf n v) (clearOf v) && codesOf v) ⌝ }
+    ensures { λ _. ⌜ length (v .output) ≡ mostOutputs ⌝ }
 {
-    let v = t.transitions[l];
     let codes = codes_ok(v);
-    if l < t.count as usize {
-        used_ok(t.states, v) & codes
+    if used {
+        used_ok(n, v) & codes
     } else {
         clear_ok(v) & codes
     }
