@@ -1,116 +1,87 @@
 -- Laws of the ways out, link by link. Assumes nothing.
 use mathlib.Core.Path.{_≡_, refl, sym, ap, _∙_}
 use mathlib.Core.Bool.{Bool, true, false}
-use mathlib.Core.List.{List, [], _++_}
+use mathlib.Core.List.{List, [], _∷_, _++_}
 use mathlib.Core.Logic.{⊎-elim, _≢_}
-use Prim.Native.Nat.{ℕ, zero, suc, _+_, _*_, _-_, _≤_, _<_}
+use Prim.Native.Nat.{ℕ, suc, _+_, _*_, _-_, _≤_, _<_}
 use native.Mathlib.Nat.{eq-or-lt-of-le}
 use native.Mathlib.Omega.{arith}
-use borrow.Author.Tests.{eq-eqb, ne-eqb, eqb-true, eqb-false}
+use borrow.Author.Tests.{eqb-true, eqb-false}
 use lib.Dec.{eqb}
 use lib.ListN.{length, getD, set, length-append}
 use lib.Seq.{getD-set-same, getD-set-other}
 use Rattle.transducer.specs.Limits.{mostOutputs}
-use Rattle.product.specs.Numbers.{mostPairs, noTransition, sides, Label}
+use Rattle.worklist.specs.Search.{Chain}
+use Rattle.worklist.specs.Links.{wayFrom}
+use Rattle.worklist.proofs.Chains.{chain-more, chain-none, way-is}
+use Rattle.product.specs.Numbers.{mostPairs, Label}
 use Rattle.witness.specs.Sides.{takenOf}
+use Rattle.witness.proofs.SideLaws.{taken-small}
 use Rattle.delays.specs.Outputs.{countAt, codesAt}
-use Rattle.delays.specs.WaysOut.{mostWay, level, Leads, ends, goes, hops, hopsOf, Led, writtenOn, wordOut, Lists, GapIs, Placed, Order, Gaps, Grounds}
+use Rattle.delays.specs.WaysOut.{mostWay, level, Links, Lists, Led, writtenOn, wordOut, GapIs, Placed, Order, Gaps, Grounds}
 use Rattle.delays.proofs.OutputLaws.{length-codes}
 
 -- where a link leads on from v: the next pair
 pub record Onward (link label written : List ℕ) (v next : ℕ) : Type 0 where
   pub next-is : getD link v 0 ≡ next + 1
   pub led-next : Led link label next
-  pub fewer : hopsOf link label v ≡ suc (hopsOf link label next)
+  pub way : wayFrom link label v ≡ getD label v 0 ∷ wayFrom link label next
+  pub fewer : length (wayFrom link label v) ≡ suc (length (wayFrom link label next))
   pub low-label : Label (getD label v 0)
   pub word : (right : Bool)
       → wordOut written link label right v ≡ codesAt written (takenOf right (getD label v 0)) ++ wordOut written link label right next
 
-module _ {link label : List ℕ} where
-  -- with fuel enough, the links that lead on are counted
-  hops-count : {v n : ℕ} → Leads link label v n → (fuel : ℕ) → n ≤ fuel → hops link label fuel v ≡ n
-  unfolding hops
-  hops-count (ends e) zero h = refl
-  hops-count {v} (ends e) (suc fuel) h = rw (eq-eqb (getD link v 0) 0 e)
-  hops-count (goes e b l f) zero h = absurd (omega arith)
-  hops-count {v} (goes {j = j} e b l f) (suc fuel) h =
-      let q : getD link v 0 - 1 ≡ j = omega arith in
-      rw (ne-eqb (getD link v 0) 0 (λ z. omega arith), q, hops-count f fuel (omega arith))
-
-  pub hops-are : {v n : ℕ} → Leads link label v n → n ≤ mostPairs → hopsOf link label v ≡ n
-  unfolding hopsOf
-  hops-are f h = hops-count f mostPairs h
-
-  -- a pair from which few enough links lead on
-  pub led : {v n : ℕ} → v < mostPairs → n < mostPairs → Leads link label v n → Led link label v
-  led {v} {n} h k f =
-      let e = hops-are f (omega arith) in
-      record { inside = h; short = omega arith; leads = rw e f }
-
-  onward-by : (written : List ℕ) {v n : ℕ} → Leads link label v n → n < mostPairs → hopsOf link label v ≡ n → (getD link v 0 ≡ 0 → ⊥)
-      → Onward link label written v (getD link v 0 - 1)
-  unfolding writtenOn
-  onward-by written (ends e) k q h = absurd (h e)
-  onward-by written {v} (goes {j = j} {n = n} e b l f) k q h =
-      let same : getD link v 0 - 1 ≡ j = omega arith in
-      let m : hopsOf link label j ≡ n = hops-are f (omega arith) in
-      rw same (record {
-        next-is = e;
-        led-next = led b (omega arith) f;
-        fewer = q ∙ ap suc (sym m);
-        low-label = l;
-        word = λ right.
-            ap (λ k. writtenOn link label written right k v) q
-            ∙ ap (λ w. codesAt written (takenOf right (getD label v 0)) ++ writtenOn link label written right n w) same
-            ∙ ap (λ k. codesAt written (takenOf right (getD label v 0)) ++ writtenOn link label written right k j) (sym m);
-      })
+module _ {link label : List ℕ} (links : Links link label) where
+  -- a chain of few enough labels from a pair is the way out of it
+  led : {v : ℕ} {ls : List ℕ} → v < mostPairs → Chain link label v ls → length ls < mostPairs → Led link label v × (wayFrom link label v ≡ ls)
+  led {v} {ls} h c k =
+      let e : wayFrom link label v ≡ ls = way-is c (omega (arith, links .long-link)) in
+      (record { inside = h; chain = rw e c; short = omega (arith, ap length e) }, e)
 
   pub onward : (written : List ℕ) {v : ℕ} → Led link label v → (getD link v 0 ≡ 0 → ⊥) → Onward link label written v (getD link v 0 - 1)
-  onward written l h = onward-by written (l .leads) (l .short) refl h
+  unfolding writtenOn
+  onward written {v} l h =
+      let low = links .linked v h in
+      let is : getD link v 0 ≡ getD link v 0 - 1 + 1 = omega arith in
+      let c = chain-more (l .chain) is in
+      let n = led (omega (arith, low .0)) (c .chain) (omega (arith, ap length (c .is), l .short)) in
+      let way = c .is ∙ ap (λ ls. getD label v 0 ∷ ls) (sym (n .1)) in
+      record {
+        next-is = is;
+        led-next = n .0;
+        way = way;
+        fewer = ap length way;
+        low-label = low .1;
+        word = λ right. ap (writtenOn written right) way;
+      }
 
   -- the same, the link being given as a number
   pub onward-to : (written : List ℕ) {v next : ℕ} → Led link label v → next ≡ getD link v 0 → 0 < next → Onward link label written v (next - 1)
   onward-to written l e h = rw e (onward written l (λ z. omega arith))
 
-  -- where no link leads on, nothing more is written
-  no-hops : {v n : ℕ} → Leads link label v n → getD link v 0 ≡ 0 → n ≡ 0
-  no-hops (ends e) h = refl
-  no-hops (goes e b l f) h = absurd (omega arith)
-
-  pub word-ends : (written : List ℕ) {v : ℕ} → Led link label v → getD link v 0 ≡ 0 → (right : Bool) → wordOut written link label right v ≡ []
-  unfolding writtenOn
-  word-ends written {v} l h right = ap (λ k. writtenOn link label written right k v) (no-hops (l .leads) h)
-
--- the transition of a label on either side is in the list
-pub taken-low : (right : Bool) (k : ℕ) → Label k → takenOf right k ≤ noTransition
-taken-low true k h = h .1
-taken-low false k h = omega (arith, h .0)
+-- where no link leads on, nothing more is written
+pub word-ends : {link label : List ℕ} (written : List ℕ) {v : ℕ} → Led link label v → getD link v 0 ≡ 0 → (right : Bool)
+    → wordOut written link label right v ≡ []
+unfolding writtenOn
+word-ends written l h right = ap (writtenOn written right) (chain-none (l .chain) h)
 
 module _ {written link label : List ℕ} (lists : Lists written link label) where
   -- each link writes at most eight codes
-  written-few : (right : Bool) (n v : ℕ) → Leads link label v n → length (writtenOn link label written right n v) ≤ mostOutputs * n
+  written-few : (right : Bool) {v : ℕ} {ls : List ℕ} → Chain link label v ls → length (writtenOn written right ls) ≤ mostOutputs * length ls
   unfolding writtenOn
-  written-few right zero v f = omega arith
-  written-few right (suc n) v f = go f (written-few right n)
-    where
-      go : Leads link label v (suc n) → ((j : ℕ) → Leads link label j n → length (writtenOn link label written right n j) ≤ mostOutputs * n)
-          → length (codesAt written (takenOf right (getD label v 0)) ++ writtenOn link label written right n (getD link v 0 - 1)) ≤ mostOutputs * suc n
-      go (goes {j = j} e b l f) rest =
-          let same : getD link v 0 - 1 ≡ j = omega arith in
-          let k = takenOf right (getD label v 0) in
-          rw same (omega (
-            arith,
-            length-append (codesAt written k) (writtenOn link label written right n j),
-            length-codes written k,
-            lists .outputs .few k (taken-low right (getD label v 0) l),
-            rest j f,
-          ))
-
-  pub word-few : (right : Bool) {v : ℕ} → Led link label v → length (wordOut written link label right v) ≤ mostOutputs * hopsOf link label v
-  word-few right {v} l = written-few right (hopsOf link label v) v (l .leads)
+  written-few right (Chain.root e) = omega arith
+  written-few right {v} (Chain.link {ls = ls} e c) =
+      let k = takenOf right (getD label v 0) in
+      omega (
+        arith,
+        length-append (codesAt written k) (writtenOn written right ls),
+        length-codes written k,
+        lists .outputs .few k (taken-small right (getD label v 0) (lists .links .linked v (λ z. omega arith) .1)),
+        written-few right c,
+      )
 
   pub word-short : (right : Bool) {v : ℕ} → Led link label v → length (wordOut written link label right v) ≤ mostWay
-  word-short right l = omega (arith, word-few right l, l .short)
+  word-short right l = omega (arith, written-few right (l .chain), l .short)
 
 -- ---- gaps
 
@@ -119,7 +90,7 @@ module _ {written link label : List ℕ} where
   pub gap-ends : {v : ℕ} → Led link label v → getD link v 0 ≡ 0 → GapIs written link label v level
   gap-ends l z = record { balance = omega (arith, ap length (word-ends written l z false), ap length (word-ends written l z true)) }
 
-  -- a gap is between 8 and 16,376
+  -- a gap is at most what one side writes from `level`
   pub gap-low : Lists written link label → {v g : ℕ} → Led link label v → GapIs written link label v g
       → (level ≤ g + mostWay) × (g ≤ level + mostWay)
   gap-low lists l g = (omega (arith, g .balance, word-short lists false l), omega (arith, g .balance, word-short lists true l))
@@ -137,7 +108,7 @@ module _ {written link label : List ℕ} where
               arith,
               is .balance,
               gap-low lists (o .led-next) is .0,
-              lists .outputs .few l (taken-low false (getD label v 0) (o .low-label)),
+              lists .outputs .few l (taken-small false (getD label v 0) (o .low-label)),
               ap length (o .word false),
               length-append (codesAt written l) (wordOut written link label false next),
               length-codes written l,

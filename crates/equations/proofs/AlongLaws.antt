@@ -18,7 +18,7 @@ use Rattle.delays.specs.WaysOut.{level, Led, wordOut}
 use Rattle.delays.specs.Needs.{mostWord, WayHeld}
 use Rattle.delays.proofs.WayOutLaws.{Onward, onward, gap-ends, word-short}
 use Rattle.delays.proofs.NeedLaws.{appends-held, held-needs, held-next, lack-low, none-needed}
-use Rattle.equations.specs.Tests.{Measured, NeedsHeld, PairPasses, Flagged}
+use Rattle.equations.specs.Loops.{Measured, NeedsHeld, PairPasses, Flagged}
 use Rattle.equations.proofs.TriedLaws.{flagged-one}
 
 -- nothing is needed at a level pair
@@ -77,7 +77,7 @@ module _ {starts : StateSet} {m written out out-step gap : List ℕ} {v : ℕ} {
     -- the way goes on from a pair that is not level
     pub along-ahead : getD gap i 0 ≢ level → Onward out out-step written i (getD out i 0 - 1)
     along-ahead n =
-        onward written (z .led)
+        onward (s .grounds .lists .links) written (z .led)
         (λ e. n (omega (arith, s .grounds .gaps i (z .led .inside) (z .counts) .balance, gap-ends {written = written} (z .led) e .balance)))
 
     -- the places are small

@@ -1,18 +1,18 @@
--- What the tests at the useful pairs say of the transducer: if all pass it is functional, and where one fails the two sides of a walk write
--- different words. Assumes nothing.
+-- What the tests at the useful pairs say of the transducer: if all pass it is functional, and where one fails the two sides of a walk have
+-- different outputs. Assumes nothing.
 use mathlib.Core.Path.{_≡_, refl, sym, ap, _∙_}
-use mathlib.Core.List.{List, [], _∷_, _++_, append-assoc}
-use mathlib.Core.Bool.{true, false}
+use mathlib.Core.List.{List, [], _∷_, _++_}
+use mathlib.Core.Bool.{Bool, true, false}
 use mathlib.Core.Logic.{_≢_}
-use Prim.Native.Nat.{ℕ, zero, suc, _*_, _-_, _≤_, _<_}
+use Prim.Native.Nat.{ℕ, _*_, _-_, _≤_, _<_}
 use native.Mathlib.Omega.{arith}
-use lib.ListN.{length, getD, replicate}
+use lib.ListN.{length, getD}
 use Rattle.transducer.specs.StateSet.{In}
 use Rattle.transducer.specs.Transition.{bytesOf}
 use Rattle.transducer.specs.Valid.{Valid}
 use Rattle.transducer.specs.Paths.{Functional}
 use Rattle.transducer.specs.Useful.{UsefulPair}
-use Rattle.transducer.specs.Walks.{Step, both, left, right, Move}
+use Rattle.transducer.specs.Walks.{Step, both, left, right, Move, Leaves}
 use Rattle.transducer.specs.declared.Transducer.{Transducer}
 use Rattle.product.specs.Numbers.{mostPairs, pairOf, noTransition, sides, labelOf, stepOf, Moves}
 use Rattle.product.specs.Machine.{ImageOf}
@@ -20,22 +20,20 @@ use Rattle.product.proofs.ImageLaws.{steps-move, move-steps}
 use Rattle.product.proofs.StepLaws.{target-low}
 use Rattle.product.proofs.LabelLaws.{edge-number, label-low}
 use Rattle.product.proofs.LabelLaws.{both-label, left-label, right-label}
-use Rattle.pairs.specs.Ways.{Useful, Back}
-use Rattle.pairs.specs.Ways.Back.{stops, goes}
+use Rattle.pairs.specs.Ways.{Useful}
 use Rattle.pairs.specs.declared.UsefulPairs.{UsefulPairs}
-use Rattle.witness.specs.Walk.{walkOf, Same}
 use Rattle.witness.proofs.Fronts.{same-bytes}
 use Rattle.delays.specs.Outputs.{Outputs, OutputsOf}
-use Rattle.delays.specs.WaysOut.{level, Lists, Led, wordOut, Placed, Order, Gaps, Grounds}
+use Rattle.delays.specs.WaysOut.{level, Lists, wordOut, Placed, Order, Gaps, Grounds}
 use Rattle.delays.specs.Needs.{StepHolds}
 use Rattle.delays.proofs.WayOutLaws.{placed-more, grounds, gap-there}
-use Rattle.equations.specs.Links.{wayOut}
-use Rattle.equations.specs.Tests.{Standing, Listed, WayPasses, Differing, Tested, Measured, Places, PairPasses, Broken, AllTried}
+use Rattle.equations.specs.Tests.{Standing, Listed, WayPasses, Differing, Tested}
+use Rattle.equations.specs.Loops.{Measured, Places, PairPasses, Broken, AllTried}
 use Rattle.equations.specs.declared.Failure.{Failure}
 use Rattle.equations.proofs.Equations as equations
-use Rattle.equations.proofs.OutWords.{way-led, word-is, right-needs, left-needs, equation-exactly}
-use Rattle.equations.proofs.TestLaws.{valid as is-valid, few as few-pairs, low as pairs-low}
-use Rattle.equations.proofs.WayLaws.{way-follows, numbered, numbered-useful, outWalk, out-done}
+use Rattle.equations.proofs.OutWords.{word-is, needs-out, equation-exactly}
+use Rattle.equations.proofs.TestLaws.{valid as is-valid, low, links-out, led-out}
+use Rattle.equations.proofs.WayLaws.{numbered, numbered-useful, outWalk, out-leaves, out-done}
 
 -- the label of a step
 record LabelOf (e : Step) : Type 0 where
@@ -56,12 +54,6 @@ label-of valid p q p′ q′ (right m) move =
     let h = edge-number valid (move .1) in
     record { label = labelOf noTransition m; low = omega arith; is = right-label m h }
 
--- a list of one value
-pub filled : {A : Type 0} (a : A) (n v : ℕ) → getD (replicate n a) v a ≡ a
-filled a zero v = refl
-filled a (suc n) zero = refl
-filled a (suc n) (suc v) = filled a n v
-
 -- what the tests are of: the lists are those of the transducer, and the pairs that count are the useful ones
 pub record Meant (t : Transducer) (m written out out-step gap : List ℕ) : Type 0 where
   pub image : ImageOf t false m
@@ -74,55 +66,47 @@ module _ {t : Transducer} {r : UsefulPairs} {out out-step : List ℕ} (ready : S
   abbrev valid : Valid t
   valid = is-valid ready
 
-  abbrev few : r .count ≤ mostPairs
-  few = few-pairs ready
-
-  abbrev low : (v : ℕ) → Useful t v → v < mostPairs
-  low = pairs-low ready
-
   pub lists-of : {written : List ℕ} → Outputs written → Lists written out out-step
-  lists-of o = record { outputs = o; long-link = ready .long-out; long-label = ready .long-out-step }
-
-  pub led-out : (v : ℕ) → Useful t v → Led out out-step v
-  led-out = way-led valid few low (ready .ways .way-out)
+  lists-of o = record { outputs = o; links = links-out ready }
 
   -- ---- where all pass
 
   module _ {m written gap : List ℕ} (s : Meant t m written out out-step gap)
       (pass : (i : ℕ) → getD gap i 0 ≢ 0 → PairPasses (t .starts) m written out out-step gap i) where
-    at-pair : (p q : ℕ) → UsefulPair t p q → PairPasses (t .starts) m written out out-step gap (pairOf p q)
-    at-pair p q h =
-        let u = numbered-useful (ready .valid) (ready .ways) p q h in
-        pass (pairOf p q) (s .known (pairOf p q) u)
+    useful-at : (p q : ℕ) → UsefulPair t p q → Useful t (pairOf p q)
+    useful-at = numbered-useful (ready .valid) (ready .ways)
 
-    starts-pass : (p q : ℕ) → UsefulPair t p q → In (t .starts) p → In (t .starts) q
-        → equations.left t (outWalk (ready .valid) (ready .ways) p q) ≡ equations.right t (outWalk (ready .valid) (ready .ways) p q)
+    at-pair : (p q : ℕ) → UsefulPair t p q → PairPasses (t .starts) m written out out-step gap (pairOf p q)
+    at-pair p q h = pass (pairOf p q) (s .known (pairOf p q) (useful-at p q h))
+
+    abbrev way : (p q : ℕ) → UsefulPair t p q → Leaves t (outWalk (ready .valid) (ready .ways) p q) p q
+    way = out-leaves (ready .valid) (ready .ways)
+
+    starts-pass : (p q : ℕ) (h : UsefulPair t p q) → In (t .starts) p → In (t .starts) q
+        → equations.lacks t (way p q h) false ≡ equations.lacks t (way p q h) true
     starts-pass p q h a a′ =
         let n = numbered (ready .valid) (ready .ways) p q h in
-        let u = numbered-useful (ready .valid) (ready .ways) p q h in
-        let w = ready .ways .way-out in
+        let l = led-out ready (useful-at p q h) in
         same-bytes _ _
-        (sym (left-needs valid few low w (s .outputs) (pairOf p q) u)
+        (sym (needs-out (s .outputs) (links-out ready) false l (way p q h))
         ∙ at-pair p q h .start (record { first = rw (n .0) a; second = rw (n .1) a′ })
-        ∙ right-needs valid few low w (s .outputs) (pairOf p q) u)
+        ∙ needs-out (s .outputs) (links-out ready) true l (way p q h))
 
-    steps-pass : (p q p′ q′ : ℕ) (e : Step) → UsefulPair t p q → UsefulPair t p′ q′ → Move t p q e p′ q′
-        → equations.Holds t (outWalk (ready .valid) (ready .ways) p q) e (outWalk (ready .valid) (ready .ways) p′ q′)
+    steps-pass : (p q p′ q′ : ℕ) (e : Step) (h : UsefulPair t p q) (h′ : UsefulPair t p′ q′) → Move t p q e p′ q′
+        → equations.Holds t (way p q h) e (way p′ q′ h′)
     steps-pass p q p′ q′ e h h′ move =
         let n = numbered (ready .valid) (ready .ways) p q h in
         let n′ = numbered (ready .valid) (ready .ways) p′ q′ h′ in
-        let u = numbered-useful (ready .valid) (ready .ways) p q h in
-        let u′ = numbered-useful (ready .valid) (ready .ways) p′ q′ h′ in
         let l = label-of valid p q p′ q′ e move in
         let moves : Moves t (pairOf p q) (l .label) (pairOf p′ q′) = rw (l .is, n .0, n .1, n′ .0, n′ .1) move in
         let z = move-steps (s .image) (pairOf p′ q′) moves in
-        let holds = at-pair p q h .steps .pass (l .label) (pairOf p′ q′) (l .low) (z .steps) (z .target) (s .known (pairOf p′ q′) u′) in
+        let holds = at-pair p q h .steps .pass (l .label) (pairOf p′ q′) (l .low) (z .steps) (z .target) (s .known (pairOf p′ q′) (useful-at p′ q′ h′)) in
         rw (l .is) at
-        (equation-exactly valid few low (ready .ways .way-out) (s .outputs) (pairOf p q) (l .label) (pairOf p′ q′) u u′
-        (label-low valid (pairOf p q) (l .label) (pairOf p′ q′) moves) .0 holds)
+        (equation-exactly (s .outputs) (links-out ready) (l .label) (label-low valid (pairOf p q) (l .label) (pairOf p′ q′) moves)
+        (led-out ready (useful-at p q h)) (led-out ready (useful-at p′ q′ h′)) (way p q h) (way p′ q′ h′) .0 holds)
 
     all-pass : Functional t
-    all-pass = equations.functional t (outWalk (ready .valid) (ready .ways)) (out-done (ready .valid) (ready .ways)) starts-pass steps-pass
+    all-pass = equations.functional t (outWalk (ready .valid) (ready .ways)) way (out-done (ready .valid) (ready .ways)) starts-pass steps-pass
 
   -- ---- where a test fails
 
@@ -130,23 +114,19 @@ module _ {t : Transducer} {r : UsefulPairs} {out out-step : List ℕ} (ready : S
     -- at a pair of start states
     uneven-differs : (v : ℕ) → Useful t v → getD gap v 0 ≢ level → WayPasses t out out-step [] v → ⊥
     uneven-differs v u n p =
-        let same = p _ (way-follows few low (ready .ways .way-out) v u) in
-        let w = word-is valid few low (ready .ways .way-out) (s .outputs) in
+        let left = word-is (s .outputs) (links-out ready) false (led-out ready u) (p .leaves) in
+        let right = word-is (s .outputs) (links-out ready) true (led-out ready u) (p .leaves) in
         let e : length (wordOut written out out-step false v) ≡ length (wordOut written out out-step true v) =
-        ap length (w false v u ∙ ap bytesOf same ∙ sym (w true v u)) in
-        n (omega (arith, s .grounds .gaps v (low v u) (s .known v u) .balance))
+        ap length (left ∙ ap bytesOf (p .same) ∙ sym right) in
+        n (omega (arith, s .grounds .gaps v (low ready v u) (s .known v u) .balance))
 
     -- at a step
     equation-differs : (i label j : ℕ) → Useful t i → Useful t j → Moves t i label j → (StepHolds written out out-step i label j → ⊥)
         → (u : List Step) → WayPasses t out out-step u i → WayPasses t out out-step (u ++ (stepOf label ∷ [])) j → ⊥
     equation-differs i label j h h′ move fails u round step =
-        let w = ready .ways .way-out in
-        let x = walkOf (wayOut out out-step (w .depth i) i) in
-        let y = walkOf (wayOut out out-step (w .depth j) j) in
-        let b : Same t (u ++ (stepOf label ∷ y)) = rw (append-assoc u (stepOf label ∷ []) y) at (step _ (way-follows few low w j h′)) in
         fails
-        (equation-exactly valid few low w (s .outputs) i label j h h′ (label-low valid i label j move) .1
-        (equations.holds t u x y (stepOf label) (round _ (way-follows few low w i h)) b))
+        (equation-exactly (s .outputs) (links-out ready) label (label-low valid i label j move) (led-out ready h) (led-out ready h′)
+        (round .leaves) (step .leaves) .1 (equations.holds t u (round .leaves) (stepOf label) (step .leaves) (round .same) (step .same)))
 
     pub differing : (f : Failure) → Broken (t .starts) m written out out-step gap (f .from) (f .label) (f .to) → Differing t out out-step f
     differing f b =
@@ -177,13 +157,9 @@ module _ {t : Transducer} {u : ℕ} {out out-step order : List ℕ} (listed : Li
       record {
         long = d .long;
         few = d .few;
-        ways = λ h l. led-out (listed .standing) (getD order h 0) (d .useful h l);
-        earlier = λ h l n. earlier h n (d .back h l);
+        ways = λ h l. led-out (listed .standing) (d .useful h l);
+        earlier = λ h l n. let b = d .back h (getD out (getD order h 0) 0 - 1) l (omega arith) in record { place = b .0; low = b .1; is = b .2 };
       }
-    where
-      earlier : (h : ℕ) → getD out (getD order h 0) 0 ≢ 0 → Back out order h → Placed order h (getD out (getD order h 0) 0 - 1)
-      earlier h n (stops z) = absurd (n z)
-      earlier h n (goes j low e) = record { place = j; low = low; is = omega (arith, e) }
 
   module _ {m written gap : List ℕ} (image : ImageOf t false m) (o : OutputsOf t written) (long : length gap ≡ mostPairs)
       (g : Gaps written out out-step order u gap) where

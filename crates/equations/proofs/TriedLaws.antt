@@ -17,7 +17,8 @@ use Rattle.product.proofs.StepLaws.{Past, step-label, past-last-row}
 use Rattle.delays.specs.Outputs.{Appends}
 use Rattle.delays.specs.Needs.{mostWord, lackOf, WayHeld, Equation, StepHolds, SameStep, Passes, FrontsKept}
 use Rattle.delays.proofs.NeedLaws.{needs-few, none-needed, equation-again}
-use Rattle.equations.specs.Tests.{fine, uneven, Measured, Places, StepsPass, Failing, Tried, Seen, NextHeld, NeedsHeld, Testing, Uneven, PairPasses, Answer, PairTried, Flagged, WayTried}
+use Rattle.equations.specs.Tests.{fine, uneven}
+use Rattle.equations.specs.Loops.{Measured, Places, StepsPass, Failing, Tried, Seen, NextHeld, NeedsHeld, Testing, Uneven, PairPasses, Answer, PairTried, Flagged, WayTried}
 use Rattle.equations.specs.declared.Failure.{Failure}
 use Rattle.equations.specs.declared.steps.OnWay.{OnWay}
 

@@ -1,10 +1,13 @@
--- The links of the useful pairs spell walks: from two start states into each useful pair, and out of it to two final states. Assumes nothing.
-use mathlib.Core.Path.{_≡_, refl, sym, ap, _∙_, subst}
-use mathlib.Core.List.{List, [], _∷_, _++_}
+-- The ways into and out of the useful pairs, as walks of the transducer. Assumes nothing.
 use mathlib.Core.Bool.{true}
-use Prim.Native.Nat.{ℕ, zero, suc, _+_, _≤_, _<_}
+use mathlib.Core.Path.{_≡_, sym, ap, subst, _∙_}
+use mathlib.Core.List.{List, [], _∷_, _++_, map-append, reverse, reverse-cons}
+use Prim.Native.Nat.{ℕ, _+_, _-_, _≤_, _<_}
 use native.Mathlib.Omega.{arith}
-use lib.ListN.{getD}
+use lib.ListN.{length, getD}
+use Rattle.worklist.specs.Search.{Chain}
+use Rattle.worklist.specs.Links.{wayFrom}
+use Rattle.worklist.proofs.Chains.{chain-none}
 use Rattle.transducer.specs.Limits.{mostStates}
 use Rattle.transducer.specs.StateSet.{In}
 use Rattle.transducer.specs.Accepted.{acceptedOf}
@@ -15,96 +18,55 @@ use Rattle.transducer.specs.declared.Transducer.{Transducer}
 use Rattle.transducer.proofs.MoveLaws.{move-walk}
 use Rattle.transducer.proofs.WalkLaws.{walk-nil, reaches-step, leaves-step}
 use Rattle.product.specs.Numbers.{mostPairs, pairOf, firstOf, secondOf, stepOf, Moves}
-use Rattle.pairs.specs.Ways.{Useful, MovesBack, Link, Way, WaysOut}
-use Rattle.pairs.specs.Ways.Link.{stops, goes}
+use Rattle.product.proofs.LabelLaws.{label-low}
+use Rattle.pairs.specs.Ways.{Useful, MovesBack, Way, WaysOut, WayIn}
 use Rattle.pairs.specs.declared.UsefulPairs.{UsefulPairs}
 use Rattle.pairs.proofs.PairSetLaws.{pair-low, at-most-pairs}
 use Rattle.witness.specs.Walk.{walkOf}
-use Rattle.equations.specs.Links.{Follows, wayIn, wayOut, Short}
-use Rattle.equations.specs.Links.Follows.{ends, goes as on}
-use Rattle.equations.proofs.LinkLaws.{wayIn-more, wayOut-more, wayIn-none, wayOut-none}
+use Rattle.delays.specs.WaysOut.{Led}
 
 -- labels joined are steps joined
 pub walk-append : (x y : List ℕ) → walkOf (x ++ y) ≡ walkOf x ++ walkOf y
-walk-append [] y = refl
-walk-append (k ∷ x) y = ap (λ w. stepOf k ∷ w) (walk-append x y)
-
--- ---- as many links lead on from a useful pair as its way has steps
-
-module _ {t : Transducer} {ended : StateSet} {Leads : ℕ → ℕ → ℕ → Type 0} {link step : List ℕ} {u : ℕ}
-    (few : u ≤ mostPairs) (low : (v : ℕ) → Useful t v → v < mostPairs) (w : Way t ended Leads link step u) where
-  follows-by : (n v : ℕ) → w .depth v ≡ n → Useful t v → Follows link v n
-  follows-by zero v e h =
-      elim (w .linked v h) [
-        | stops z i d ↦ ends z
-        | goes j z h′ k d ↦ absurd (omega arith)
-      ]
-  follows-by (suc n) v e h =
-      elim (w .linked v h) [
-        | stops z i d ↦ absurd (omega arith)
-        | goes j z h′ k d ↦ on z (low j h′) (follows-by n j (omega arith) h′)
-      ]
-
-  pub way-follows : (v : ℕ) → Useful t v → Follows link v (w .depth v)
-  way-follows v h = follows-by (w .depth v) v refl h
-
-  pub way-short : (v : ℕ) → Useful t v → Short link v
-  way-short v h = record { inside = low v h; size = w .depth v; small = omega (arith, w .short v h); follows = way-follows v h }
+walk-append x y = map-append stepOf x y
 
 -- ---- the walks
 
--- one step more
-reaches-more : (t : Transducer) (link step : List ℕ) (n v j : ℕ) → getD link v 0 ≡ j + 1 → Reaches t (walkOf (wayIn link step n j)) (firstOf j) (secondOf j) → Moves t j (getD step v 0) v
-    → Reaches t (walkOf (wayIn link step (suc n) v)) (firstOf v) (secondOf v)
-reaches-more t link step n v j z r k =
-    let e : walkOf (wayIn link step (suc n) v) ≡ walkOf (wayIn link step n j) ++ (stepOf (getD step v 0) ∷ []) =
-    ap walkOf (wayIn-more link step n v j z) ∙ walk-append (wayIn link step n j) (getD step v 0 ∷ []) in
-    subst (λ x. Reaches t x (firstOf v) (secondOf v)) (sym e) (reaches-step r (move-walk (stepOf (getD step v 0)) k))
-
 module _ {t : Transducer} {link step : List ℕ} {u : ℕ} where
-  reaches-by : (w : Way t (t .starts) (Moves t) link step u) (n v : ℕ) → w .depth v ≡ n → Useful t v
-      → Reaches t (walkOf (wayIn link step n v)) (firstOf v) (secondOf v)
-  reaches-by w zero v e h =
-      elim (w .linked v h) [
-        | stops z i d ↦ rw (wayIn-none link step v) (record { s = firstOf v; s′ = secondOf v; starts = i .first; starts′ = i .second; walk = walk-nil })
-        | goes j z h′ k d ↦ absurd (omega arith)
-      ]
-  reaches-by w (suc n) v e h = go (w .linked v h) (reaches-by w n)
-    where
-      go : Link t (t .starts) (Moves t) link step (w .depth) v
-          → ((j : ℕ) → w .depth j ≡ n → Useful t j → Reaches t (walkOf (wayIn link step n j)) (firstOf j) (secondOf j))
-          → Reaches t (walkOf (wayIn link step (suc n) v)) (firstOf v) (secondOf v)
-      go (stops z i d) into = absurd (omega arith)
-      go (goes j z h′ k d) into = reaches-more t link step n v j z (into j (omega arith) h′) k
+  -- a chain of links backwards from a useful pair is a walk from two start states to it
+  chain-reaches : WayIn t u link step → {v : ℕ} {ls : List ℕ} → Useful t v → Chain link step v ls → Reaches t (walkOf (reverse ls)) (firstOf v) (secondOf v)
+  chain-reaches w {v} h (Chain.root e) =
+      let i = w .at-end v h .0 e in
+      record { s = firstOf v; s′ = secondOf v; starts = i .first; starts′ = i .second; walk = walk-nil }
+  chain-reaches w {v} h (Chain.link {j = j} {ls = ls} e c) =
+      let k = w .linked v j e in
+      let b = getD step v 0 in
+      subst (λ x. Reaches t x (firstOf v) (secondOf v)) (sym (ap walkOf (reverse-cons b ls) ∙ walk-append (reverse ls) (b ∷ [])))
+      (reaches-step (chain-reaches w (k .1) c) (move-walk (stepOf b) (k .2)))
 
-  leaves-by : (w : Way t (t .finals) (MovesBack t) link step u) (n v : ℕ) → w .depth v ≡ n → Useful t v
-      → Leaves t (walkOf (wayOut link step n v)) (firstOf v) (secondOf v)
-  leaves-by w zero v e h =
-      elim (w .linked v h) [
-        | stops z i d ↦ rw (wayOut-none link step v) (record { f = firstOf v; f′ = secondOf v; ends = i .first; ends′ = i .second; walk = walk-nil })
-        | goes j z h′ k d ↦ absurd (omega arith)
-      ]
-  leaves-by w (suc n) v e h =
-      elim (w .linked v h) [
-        | stops z i d ↦ absurd (omega arith)
-        | goes j z h′ k d ↦ rw (wayOut-more link step n v j z) (leaves-step (move-walk (stepOf (getD step v 0)) k) (leaves-by w n j (omega arith) h′))
-      ]
+  -- a chain of links from a useful pair is a walk from it to two final states
+  chain-leaves : Way t (t .finals) (MovesBack t) link step u → {v : ℕ} {ls : List ℕ} → Useful t v → Chain link step v ls
+      → Leaves t (walkOf ls) (firstOf v) (secondOf v)
+  chain-leaves w {v} h (Chain.root e) =
+      let i = w .at-end v h .0 e in
+      record { f = firstOf v; f′ = secondOf v; ends = i .first; ends′ = i .second; walk = walk-nil }
+  chain-leaves w {v} h (Chain.link {j = j} e c) =
+      let k = w .linked v j e in
+      leaves-step (move-walk (stepOf (getD step v 0)) (k .2)) (chain-leaves w (k .1) c)
 
   -- the way into a useful pair leads from two start states to it
-  pub way-reaches : (w : Way t (t .starts) (Moves t) link step u) (v : ℕ) → Useful t v
-      → Reaches t (walkOf (wayIn link step (w .depth v) v)) (firstOf v) (secondOf v)
-  way-reaches w v h = reaches-by w (w .depth v) v refl h
+  pub way-reaches : WayIn t u link step → (v : ℕ) → Useful t v → Reaches t (walkOf (reverse (wayFrom link step v))) (firstOf v) (secondOf v)
+  way-reaches w v h = chain-reaches w h (w .chain v h)
 
   -- the way out of a useful pair leads from it to two final states
-  pub way-leaves : (w : Way t (t .finals) (MovesBack t) link step u) (v : ℕ) → Useful t v
-      → Leaves t (walkOf (wayOut link step (w .depth v) v)) (firstOf v) (secondOf v)
-  way-leaves w v h = leaves-by w (w .depth v) v refl h
+  pub way-leaves : Way t (t .finals) (MovesBack t) link step u → (v : ℕ) → Useful t v
+      → Leaves t (walkOf (wayFrom link step v)) (firstOf v) (secondOf v)
+  way-leaves w v h = chain-leaves w h (w .chain v h)
 
--- ---- the ways of the equations
+-- ---- the useful pairs by their numbers
 
 module _ {t : Transducer} {r : UsefulPairs} {out out-step : List ℕ} (valid : acceptedOf t ≡ true)
     (ways : WaysOut t r out out-step) where
-  -- the states of a useful pair are below 32, so its number is below 1,024
+  -- the states of a useful pair are states, so its number is that of a pair
   states-low : (p q : ℕ) → UsefulPair t p q → (p < mostStates) × (q < mostStates)
   states-low p q h = pair-low (r .set) p q (ways .pairs .members valid p q .1 h)
 
@@ -123,10 +85,13 @@ module _ {t : Transducer} {r : UsefulPairs} {out out-step : List ℕ} (valid : a
 
   -- the walk out of the pair p, q
   abbrev pub outWalk : ℕ → ℕ → List Step
-  outWalk p q = walkOf (wayOut out out-step (ways .way-out .depth (pairOf p q)) (pairOf p q))
+  outWalk p q = walkOf (wayFrom out out-step (pairOf p q))
+
+  pub out-leaves : (p q : ℕ) → UsefulPair t p q → Leaves t (outWalk p q) p q
+  out-leaves p q h = let n = numbered p q h in rw (n .0, n .1) at (way-leaves (ways .way-out) (pairOf p q) (numbered-useful p q h))
 
   pub out-done : (p q : ℕ) → UsefulPair t p q → In (t .finals) p → In (t .finals) q → outWalk p q ≡ []
   out-done p q h a a′ =
       let n = numbered p q h in
-      let z = ways .way-out .at-end (pairOf p q) (numbered-useful p q h) (record { first = rw (n .0) a; second = rw (n .1) a′ }) in
-      ap (λ k. walkOf (wayOut out out-step k (pairOf p q))) (z .1) ∙ ap walkOf (wayOut-none out out-step (pairOf p q))
+      let u = numbered-useful p q h in
+      ap walkOf (chain-none (ways .way-out .chain (pairOf p q) u) (ways .way-out .at-end (pairOf p q) u .1 (record { first = rw (n .0) a; second = rw (n .1) a′ })))

@@ -1,5 +1,6 @@
-// The functionality test: an equation at each step between useful pairs, and where one fails a walk whose two sides write different words. If none
-// fails the transducer is functional (proofs/Equations.antt). The contracts cite specs/Links.antt and specs/Tests.antt.
+// The functionality test: an equation at each step between useful pairs, and where one fails a walk whose two sides have different outputs. If none
+// fails the transducer is functional (proofs/Equations.antt). The contracts of `search` and `walk` cite specs/Tests.antt, those of their loops
+// specs/Loops.antt.
 ghost use mathlib.Core.Bool.{false};
 ghost use mathlib.Core.Logic.{_≢_};
 ghost use mathlib.Core.Path.{_≡_};
@@ -9,7 +10,8 @@ ghost use Rattle.product.specs.Machine.{ImageOf};
 ghost use Rattle.product.specs.Numbers.{mostPairs};
 ghost use Rattle.delays.specs.WaysOut.{level};
 ghost use Rattle.equations.specs.Links.{mostSteps};
-ghost use Rattle.equations.specs.Tests.{Standing, Listed, Differing, Tested, Fails, Measured, Places, Buffers, NextHeld, NeedsHeld, Uneven, PairTried, AllTried, Flagged, WayTried};
+ghost use Rattle.equations.specs.Tests.{Standing, Listed, Differing, Tested, Fails};
+ghost use Rattle.equations.specs.Loops.{Measured, Places, Buffers, NextHeld, NeedsHeld, Uneven, PairTried, AllTried, Flagged, WayTried};
 
 pub mod steps;
 pub mod way;
@@ -82,7 +84,7 @@ pub fn search(
     )
 }
 
-// Where a test fails, a walk whose two sides write different words, written into `steps`: at an uneven pair of start states the way out of it; at a
+// Where a test fails, a walk whose two sides have different outputs, written into `steps`: at an uneven pair of start states the way out of it; at a
 // step from i to j the way into i and out of it, which is compared, or else the way into i, the step and the way out of j.
 pub fn walk(
     t: Transducer,

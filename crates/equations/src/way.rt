@@ -2,8 +2,8 @@
 ghost use mathlib.Core.Path.{_≡_};
 ghost use Prim.Native.Nat.{_+_, _≤_};
 ghost use lib.ListN.{length};
-ghost use Rattle.product.specs.Numbers.{mostPairs};
-ghost use Rattle.equations.specs.Links.{linksOf, mostSteps, middle, Short, Lists, EnteredBy, LeftBy, RoundAt, ThroughAt};
+ghost use Rattle.delays.specs.WaysOut.{Links, Led};
+ghost use Rattle.equations.specs.Links.{mostSteps, middle, EnteredBy, LeftBy, StandsAt, WaysOf, roundOf, throughOf};
 use product::steps::PAIRS;
 
 // The place of the step in the middle of a walk.
@@ -26,10 +26,10 @@ pub fn round(
     i: usize,
     steps: &mut [u32],
 ) -> Place
-    requires { ⌜ Lists (linksOf (now into) (now «into_step») (now out) (now «out_step»)) (now steps) ⌝ }
-    requires { ⌜ Short (now into) i × Short (now out) i ⌝ }
+    requires { ⌜ WaysOf (now into) (now «into_step») (now out) (now «out_step») i i ⌝ }
+    requires { ⌜ length (now steps) ≡ mostSteps ⌝ }
     ensures { λ r. ⌜
-        RoundAt (linksOf (now (into .entry)) (now («into_step» .entry)) (now (out .entry)) (now («out_step» .entry))) i (now (steps .exit)) r
+        StandsAt (now (steps .exit)) r (roundOf (now (into .entry)) (now («into_step» .entry)) (now (out .entry)) (now («out_step» .entry)) i)
         ⌝ }
 {
     let start = enter(into, into_step, i, steps);
@@ -48,10 +48,11 @@ pub fn through(
     j: usize,
     steps: &mut [u32],
 ) -> Place
-    requires { ⌜ Lists (linksOf (now into) (now «into_step») (now out) (now «out_step»)) (now steps) ⌝ }
-    requires { ⌜ Short (now into) i × Short (now out) j ⌝ }
+    requires { ⌜ WaysOf (now into) (now «into_step») (now out) (now «out_step») i j ⌝ }
+    requires { ⌜ length (now steps) ≡ mostSteps ⌝ }
     ensures { λ r. ⌜
-        ThroughAt (linksOf (now (into .entry)) (now («into_step» .entry)) (now (out .entry)) (now («out_step» .entry))) i label j (now (steps .exit)) r
+        StandsAt (now (steps .exit)) r
+        (throughOf (now (into .entry)) (now («into_step» .entry)) (now (out .entry)) (now («out_step» .entry)) i label j)
         ⌝ }
 {
     let start = enter(into, into_step, i, steps);
@@ -62,8 +63,8 @@ pub fn through(
 
 // Writes the labels of the way into the pair v, its last step just before the middle; the place of its first step.
 pub fn enter(link: &[u16], label: &[u32], v: usize, steps: &mut [u32]) -> usize
-    requires { ⌜ (length (now link) ≡ mostPairs) × (length (now label) ≡ mostPairs) × (length (now steps) ≡ mostSteps) ⌝ }
-    requires { ⌜ Short (now link) v ⌝ }
+    requires { ⌜ Links (now link) (now label) × Led (now link) (now label) v ⌝ }
+    requires { ⌜ length (now steps) ≡ mostSteps ⌝ }
     ensures { λ r. ⌜ EnteredBy (now (link .entry)) (now (label .entry)) v (now (steps .entry)) (now (steps .exit)) r ⌝ }
 {
     let mut at = MIDDLE;
@@ -80,8 +81,8 @@ pub fn enter(link: &[u16], label: &[u32], v: usize, steps: &mut [u32]) -> usize
 
 // Writes the labels of the way out of the pair v from the place `start` on; the place past its last step.
 pub fn leave(link: &[u16], label: &[u32], v: usize, steps: &mut [u32], start: usize) -> usize
-    requires { ⌜ (length (now link) ≡ mostPairs) × (length (now label) ≡ mostPairs) × (length (now steps) ≡ mostSteps) ⌝ }
-    requires { ⌜ Short (now link) v × (start ≤ middle + 1) ⌝ }
+    requires { ⌜ Links (now link) (now label) × Led (now link) (now label) v ⌝ }
+    requires { ⌜ (length (now steps) ≡ mostSteps) × (start ≤ middle + 1) ⌝ }
     ensures { λ r. ⌜ LeftBy (now (link .entry)) (now (label .entry)) v (now (steps .entry)) (now (steps .exit)) start r ⌝ }
 {
     let mut at = start;

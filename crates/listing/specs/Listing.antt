@@ -4,7 +4,6 @@ use mathlib.Core.List.{List, [], _∷_, _++_, flatMap}
 use Prim.Native.Nat.{ℕ, _+_, _*_, _≤_}
 use lib.ListN.{length}
 use Rattle.records.specs.Number.{columnsOf}
-use Rattle.transducer.specs.Limits.{mostOutputs}
 use Rattle.wordsearch.specs.Limits as words
 use Rattle.witness.specs.Sides as walks
 
@@ -90,9 +89,9 @@ pairBytes = 2 + fieldWidth * 2
 abbrev pub mostSteps : ℕ
 mostSteps = walks.mostSteps
 
--- the most items of a shown output: 8 for each step, 16,376
+-- the most items of a shown output
 abbrev pub mostShown : ℕ
-mostShown = mostOutputs * mostSteps
+mostShown = walks.mostShown
 
 -- the longest listing of a verdict: `V`, and five records with their counts and items, 233,412 bytes
 abbrev pub mostVerdictBytes : ℕ

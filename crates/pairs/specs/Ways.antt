@@ -4,11 +4,12 @@ use mathlib.Core.Bool.{Bool, cond, _&&_}
 use mathlib.Core.Path.{_≡_}
 use mathlib.Core.List.{List}
 use mathlib.Core.Logic.{_↔_, _≢_}
-use Prim.Native.Nat.{ℕ, suc, _+_, _-_, _≤_, _<_}
+use Prim.Native.Nat.{ℕ, _+_, _-_, _≤_, _<_}
 use lib.Dec.{eqb, ltb}
 use lib.ListN.{length, getD}
 use Rattle.worklist.specs.Lists.{Worklist, Found}
-use Rattle.worklist.specs.Search.{Grown}
+use Rattle.worklist.specs.Search.{Grown, Chain}
+use Rattle.worklist.specs.Links.{wayFrom}
 use Rattle.transducer.specs.Useful.{UsefulPair}
 use Rattle.transducer.specs.declared.StateSet.{StateSet}
 use Rattle.transducer.specs.declared.Transducer.{Transducer}
@@ -29,35 +30,26 @@ MovesBack t u k v = Moves t v k u
 -- ways along links from the useful pairs to the pairs of two states of `ends`, where `Leads j k v` says that the step with the label k lies
 -- between j and v
 module _ (t : Transducer) (ends : StateSet) (Leads : ℕ → ℕ → ℕ → Type 0) (link step : List ℕ) where
-  -- where the way from v goes, `depth` being how many steps each way has
-  pub data Link (depth : ℕ → ℕ) (v : ℕ) : Type 0 where
-    -- nowhere: v is a pair of `ends`
-    stops : getD link v 0 ≡ 0 → PairIn ends ends v → depth v ≡ 0 → Link depth v
-    -- to the useful pair j
-    goes : (j : ℕ) → getD link v 0 ≡ j + 1 → Useful t j → Leads j (getD step v 0) v → depth v ≡ suc (depth j) → Link depth v
-
-  -- each useful pair has a way, of fewer than u steps, and none from a pair of `ends`
+  -- each useful pair has a way, of fewer than u steps
   pub record Way (u : ℕ) : Type 0 where
-    pub depth : ℕ → ℕ
-    pub linked : (v : ℕ) → Useful t v → Link depth v
-    pub at-end : (v : ℕ) → Useful t v → PairIn ends ends v → (getD link v 0 ≡ 0) × (depth v ≡ 0)
-    pub short : (v : ℕ) → Useful t v → depth v < u
+    -- a link is that of a useful pair, and leads to another by the step with its label
+    pub linked : (v j : ℕ) → getD link v 0 ≡ j + 1 → Useful t v × Useful t j × Leads j (getD step v 0) v
+    -- a useful pair has none exactly where it is a pair of `ends`
+    pub at-end : (v : ℕ) → Useful t v → (getD link v 0 ≡ 0) ↔ PairIn ends ends v
+    -- from each, the links lead to such a pair
+    pub chain : (v : ℕ) → Useful t v → Chain link step v (wayFrom link step v)
+    pub short : (v : ℕ) → Useful t v → length (wayFrom link step v) < u
 
 -- the useful pairs, and for each a way out, to two final states
 pub record WaysOut (t : Transducer) (r : UsefulPairs) (out out-step : List ℕ) : Type 0 where
   pub pairs : UsefulPairsOf t r
   pub way-out : Way t (t .finals) (MovesBack t) out out-step (r .count)
 
--- the link of the pair at the place i of `order` leads nowhere, or to the pair at an earlier place
-pub data Back (link order : List ℕ) (i : ℕ) : Type 0 where
-  stops : getD link (getD order i 0) 0 ≡ 0 → Back link order i
-  goes : (j : ℕ) → j < i → getD link (getD order i 0) 0 ≡ getD order j 0 + 1 → Back link order i
-
 -- the first `count` places of `order` have the useful pairs in the order in which they were found
 pub record Discovered (t : Transducer) (link order : List ℕ) (count : ℕ) : Type 0 where
   -- there is a place for each pair of states
   pub long : length order ≡ mostPairs
-  -- there are at most 1,024 useful pairs
+  -- there are at most as many
   pub few : count ≤ mostPairs
   -- what stands at a place is a pair
   pub low : (i : ℕ) → i < count → getD order i 0 < mostPairs
@@ -65,8 +57,8 @@ pub record Discovered (t : Transducer) (link order : List ℕ) (count : ℕ) : T
   pub useful : (i : ℕ) → i < count → Useful t (getD order i 0)
   -- it stands at no other place
   pub apart : (i k : ℕ) → i < k → k < count → getD order i 0 ≢ getD order k 0
-  -- its link leads back
-  pub back : (i : ℕ) → i < count → Back link order i
+  -- its link leads to an earlier place
+  pub back : (i j : ℕ) → i < count → getD link (getD order i 0) 0 ≡ j + 1 → (k : ℕ) × (k < i) × (getD order k 0 ≡ j)
   -- each useful pair has a place
   pub place : (v : ℕ) → Useful t v → (i : ℕ) × (i < count) × (getD order i 0 ≡ v)
 
@@ -103,10 +95,11 @@ pub record Traced (order parent via : List ℕ) (count : ℕ) : Type 0 where
   pub older : (i : ℕ) → i < count → getD parent i 0 ≤ i
   pub apart : (i k : ℕ) → i < k → k < count → getD order i 0 ≢ getD order k 0
 
--- the links of the pairs at the places below `bound`
+-- the links of the pairs at the places below `bound`; no other pair has one
 pub record Linked (order parent via link step : List ℕ) (bound : ℕ) : Type 0 where
   pub links : (i : ℕ) → i < bound → getD link (getD order i 0) 0 ≡ linkOf order (getD parent i 0)
   pub steps : (i : ℕ) → i < bound → getD step (getD order i 0) 0 ≡ getD via i 0
+  pub only : (v : ℕ) → getD link v 0 ≢ 0 → (i : ℕ) × (i < bound) × (getD order i 0 ≡ v)
 
 -- ---- the list by which a search is confined
 

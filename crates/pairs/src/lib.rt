@@ -3,7 +3,7 @@
 // `Discovered` and `WayIn`, what `ways_out` and `ways_in` leave.
 ghost use mathlib.Core.Bool.{true, false, cond};
 ghost use mathlib.Core.Path.{_≡_};
-ghost use Prim.Native.Nat.{_-_, _≤_, _<_};
+ghost use Prim.Native.Nat.{ℕ, _-_, _≤_, _<_};
 ghost use lib.ListN.{length, getD};
 ghost use Rattle.worklist.specs.Lists.{lists};
 ghost use Rattle.worklist.specs.Search.{Blank};
@@ -99,7 +99,7 @@ pub fn useful_pairs(t: Transducer) -> UsefulPairs
 
 // The useful pairs of t, which is accepted and whose machine is m, and for each a way out, as links: at a useful pair i, out[i] is 0 where i is a
 // pair of final states, else 1 + the pair after it, and out_step[i] the label of the step from i to there. `order` has the useful pairs in the order
-// in which they were found: each after the one to which its link leads.
+// in which they were found: each after the one to which its link leads. No other pair has a link.
 pub fn ways_out(
     t: Transducer,
     m: &[u16],
@@ -112,6 +112,7 @@ pub fn ways_out(
     requires { ⌜ length (now out) ≡ mostPairs ⌝ }
     requires { ⌜ length (now «out_step») ≡ mostPairs ⌝ }
     requires { ⌜ length (now order) ≡ mostPairs ⌝ }
+    requires { ⌜ ((v : ℕ) → getD (now out) v 0 ≡ 0) ⌝ }
     ensures { λ r. ⌜ WaysOut t r (now (out .exit)) (now («out_step» .exit)) ⌝ }
     ensures { λ r. ⌜ Discovered t (now (out .exit)) (now (order .exit)) (r .count) ⌝ }
 {
@@ -144,6 +145,7 @@ pub fn ways_in(
     requires { ⌜ UsefulPairsOf t pairs ⌝ }
     requires { ⌜ length (now into) ≡ mostPairs ⌝ }
     requires { ⌜ length (now «into_step») ≡ mostPairs ⌝ }
+    requires { ⌜ ((v : ℕ) → getD (now into) v 0 ≡ 0) ⌝ }
     ensures { λ _. ⌜ WayIn t (pairs .count) (now (into .exit)) (now («into_step» .exit)) ⌝ }
 {
     let mut order = [0u32; PAIRS];
@@ -205,6 +207,7 @@ fn links(order: &[u32], parent: &[u32], via: &[u32], count: u32, link: &mut [u16
     requires { ⌜ Traced (now order) (now parent) (now via) count ⌝ }
     requires { ⌜ length (now link) ≡ mostPairs ⌝ }
     requires { ⌜ length (now step) ≡ mostPairs ⌝ }
+    requires { ⌜ ((v : ℕ) → getD (now link) v 0 ≡ 0) ⌝ }
     ensures { λ _. ⌜ Linked (now (order .entry)) (now (parent .entry)) (now (via .entry)) (now (link .exit)) (now (step .exit)) count ⌝ }
 {
     let n = count as usize;

@@ -4,7 +4,7 @@ use mathlib.Core.List.{List, [], _∷_, _++_, append-assoc}
 use Prim.Native.Nat.{ℕ, zero, suc, _<_}
 use native.Mathlib.Omega.{arith}
 use lib.ListN.{length, getD}
-use Rattle.transducer.specs.Paths.{Path, here, step, reads, writes, Accepting}
+use Rattle.transducer.specs.Paths.{Path, here, step, reads, writes, outputTo, Accepting}
 use Rattle.transducer.specs.Useful.{Through}
 use Rattle.transducer.specs.declared.Transducer.{Transducer}
 
@@ -18,6 +18,16 @@ module _ (t : Transducer) where
   pub writes-append : (π ρ : List ℕ) → writes t (π ++ ρ) ≡ writes t π ++ writes t ρ
   writes-append [] ρ = refl
   writes-append (l ∷ π) ρ = rw (writes-append π ρ, append-assoc)
+
+  -- the output of a path to a final state is what it writes
+  pub output-to : (π : List ℕ) (q : ℕ) → outputTo t π q ≡ writes t π
+  unfolding outputTo
+  output-to π q = refl
+
+  -- of joined paths, what the first writes and the output of the second
+  pub output-append : (π ρ : List ℕ) (q : ℕ) → outputTo t (π ++ ρ) q ≡ writes t π ++ outputTo t ρ q
+  unfolding outputTo
+  output-append π ρ q = writes-append π ρ
 
   -- a path from p to r cut in two: the state in the middle and the two halves
   pub record PathCut (p : ℕ) (π ρ : List ℕ) (r : ℕ) : Type 0 where

@@ -11,7 +11,7 @@ use Rattle.transducer.specs.Useful.{Through, UsefulState, UsefulPair}
 use Rattle.transducer.specs.declared.StateSet.{StateSet}
 use Rattle.transducer.specs.declared.Transition.{Transition}
 use Rattle.transducer.specs.declared.Transducer.{Transducer}
-use Rattle.transducer.proofs.PathLaws.{reads-append}
+use Rattle.transducer.proofs.PathLaws.{reads-append, output-to}
 use Rattle.transducer.proofs.LineLaws.{at-among, among-numbered, made-lines}
 
 -- each start state, each final state and each line of t stands in t′
@@ -70,7 +70,7 @@ module _ {t t′ : Transducer} (h : Within t t′) where
               ends = h .finals _ (a .ends);
             };
         read = k .read ∙ r .read;
-        written = k .written ∙ r .written;
+        written = output-to t′ (k .π) (a .last) ∙ k .written ∙ sym (output-to t (r .π) (a .last)) ∙ r .written;
       }
 
   -- if t′ is functional, so is t

@@ -31,9 +31,13 @@ module _ (t : Transducer) where
     pub path : Path first π last
     pub ends : In (t .finals) last
 
+  -- the output of a path that ends in the final state q: what it writes
+  unfoldable pub outputTo : List ℕ → ℕ → OutputWord
+  outputTo π q = writes π
+
   -- the output of an accepting path
   abbrev pub outputOf : {π : List ℕ} → Accepting π → OutputWord
-  outputOf {π} a = writes π
+  outputOf {π} a = outputTo π (a .last)
 
   -- the relation realized by t: x and y are the labels of an accepting path
   pub record Relates (x : InputWord) (y : OutputWord) : Type 0 where

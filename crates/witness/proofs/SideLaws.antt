@@ -14,8 +14,8 @@ use Rattle.transducer.specs.Walks.{both, left, right, leftIn, rightIn}
 use Rattle.transducer.proofs.SizeLaws.{length-sides}
 use Rattle.product.specs.Numbers.{noTransition, sides, Label, stepOf}
 use Rattle.buffers.specs.Put.{put}
-use Rattle.witness.specs.Walk.{walkOf}
-use Rattle.witness.specs.Sides.{Labels, takenOf, sideOf, Front}
+use Rattle.witness.specs.Walk.{walkOf, sideOf}
+use Rattle.witness.specs.Sides.{Labels, takenOf, Front}
 
 -- what a label takes on each side
 step-takes : (k : ℕ) → Label k

@@ -2,7 +2,7 @@
 use mathlib.Core.Path.{sym, _∙_}
 use Prim.Native.Nat.{_-_, _≤_, _<_}
 use native.Mathlib.Omega.{arith}
-use Rattle.equations.specs.Tests.{Buffers, Flagged}
+use Rattle.equations.specs.Loops.{Buffers, Flagged}
 use Rattle.equations.proofs.TriedLaws.{broken, passes, Behind, behind-one, all-pass}
 use Rattle.equations.proofs.try_pairs.Statement.{statement}
 use Rattle.equations.proofs.try_pairs.Tie as tie

@@ -8,10 +8,11 @@ use borrow.Author.Needs.{needs}
 use lib.ListN.{length, getD}
 use Rattle.product.specs.Numbers.{mostPairs}
 use Rattle.witness.specs.Sides.{takenOf}
+use Rattle.witness.proofs.SideLaws.{taken-small}
 use Rattle.delays.specs.Outputs.{countAt}
-use Rattle.delays.specs.WaysOut.{hopsOf}
+use Rattle.worklist.specs.Links.{wayFrom}
 use Rattle.delays.specs.Needs.{mostWord}
-use Rattle.delays.proofs.WayOutLaws.{Onward, taken-low}
+use Rattle.delays.proofs.WayOutLaws.{Onward}
 use Rattle.equations.proofs.TriedLaws.{broken, passes}
 use Rattle.equations.proofs.AlongLaws.{Along, along-none, along-ahead, along-low, along-needs, along-next, along-more, along-done, not-level, level-or-flag}
 use Rattle.equations.proofs.try_way.Statement.{statement}
@@ -22,7 +23,7 @@ Inv-loop starts m written out out-step gap v tested₀ left right x₀ y₀ i₀
     Along starts m written out out-step gap v left right tested i l r × (length x ≡ length x₀) × (length y ≡ length y₀)
 
 abbrev μ-loop : tie.MeasureT-loop
-μ-loop starts m written out out-step gap v tested₀ left right x₀ y₀ i₀ l₀ r₀ tested x y i l r = hopsOf out out-step i
+μ-loop starts m written out out-step gap v tested₀ left right x₀ y₀ i₀ l₀ r₀ tested x y i l r = length (wayFrom out out-step i)
 
 -- ---- places: the words are written, a turn of the loop, its counts, its test
 
@@ -115,13 +116,13 @@ mul-label : tie.Need-mul-label Inv-loop μ-loop
 mul-label c = omega (arith, inside c)
 
 shared-slice-read-label : tie.Need-shared-slice-read-label Inv-loop μ-loop
-shared-slice-read-label c = omega (arith, inside (c .before), begin (loop (c .before)) .pre .0 .grounds .lists .long-label)
+shared-slice-read-label c = omega (arith, inside (c .before), begin (loop (c .before)) .pre .0 .grounds .lists .links .long-label)
 
 mul-i : tie.Need-mul-i Inv-loop μ-loop
 mul-i c = omega (arith, inside (c .before))
 
 shared-slice-read-i : tie.Need-shared-slice-read-i Inv-loop μ-loop
-shared-slice-read-i c = omega (arith, inside (c .before .before), begin (loop (c .before .before)) .pre .0 .grounds .lists .long-link)
+shared-slice-read-i c = omega (arith, inside (c .before .before), begin (loop (c .before .before)) .pre .0 .grounds .lists .links .long-link)
 
 cast-i : tie.Need-cast-i Inv-loop μ-loop
 cast-i c = omega (arith, inside (c .before .before))
@@ -135,7 +136,7 @@ taken-requires c κs = search needs
 count-requires : tie.Need-count-requires Inv-loop μ-loop
 count-requires c κs =
     let t = c .before .before .before in
-    (begin (loop t) .pre .0 .grounds .lists .outputs, rw (c .taken .ensures) (taken-low false _ (ahead t .low-label)))
+    (begin (loop t) .pre .0 .grounds .lists .outputs, rw (c .taken .ensures) (taken-small false _ (ahead t .low-label)))
 
 cast-l : tie.Need-cast-l Inv-loop μ-loop
 cast-l c = search needs
@@ -149,7 +150,7 @@ taken-requires-2 c κs = search needs
 count-requires-2 : tie.Need-count-requires-2 Inv-loop μ-loop
 count-requires-2 c κs =
     let t = c .before .before .before .before .before in
-    (begin (loop t) .pre .0 .grounds .lists .outputs, rw (c .taken2 .ensures) (taken-low true _ (ahead t .low-label)))
+    (begin (loop t) .pre .0 .grounds .lists .outputs, rw (c .taken2 .ensures) (taken-small true _ (ahead t .low-label)))
 
 cast-r : tie.Need-cast-r Inv-loop μ-loop
 cast-r c = search needs

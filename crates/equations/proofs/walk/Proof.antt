@@ -1,10 +1,12 @@
 -- `walk` meets its contract: at an uneven pair of start states the way out of it is such a walk; at a step one of two walks is, since the sides of both
--- cannot write the same. Assumes nothing.
+-- cannot have the same output. Assumes nothing.
 use mathlib.Core.Path.{refl, _∙_}
 use native.Mathlib.Omega.{arith}
 use borrow.Author.Needs.{needs}
+use Rattle.product.specs.Numbers.{mostPairs}
+use Rattle.pairs.proofs.UsefulLaws.{filled}
 use Rattle.equations.proofs.PlaceLaws.{way-stands}
-use Rattle.equations.proofs.TestLaws.{valid, short-out, short-in, way-fails, round-candidate, round-fails, through-fails}
+use Rattle.equations.proofs.TestLaws.{valid, links-out, led-out, ways-of, way-fails, round-candidate, round-fails, through-fails}
 use Rattle.equations.proofs.walk.Statement.{statement}
 use Rattle.equations.proofs.walk.Tie as tie
 
@@ -42,7 +44,7 @@ written c = c .before .before
 leave-requires : tie.Need-leave-requires
 leave-requires c κs =
     let a = start (c .before) .pre in
-    ((a .0 .long-out, a .0 .long-out-step, a .1 .1 .1), (short-out (a .0) _ (a .1 .1 .0 .useful), omega arith))
+    ((links-out (a .0), led-out (a .0) (a .1 .1 .0 .useful)), (a .1 .1 .1, omega arith))
 
 same-length : tie.Need-same-length
 same-length c = search needs
@@ -54,7 +56,7 @@ returns c =
     let d = a .1 .1 .0 in
     let z = d .start (b .if1 .taken) in
     let l = left c .leave .ensures in
-    way-fails (a .0) (d .useful) (z .0) (l .follows) (way-stands (a .1 .1 .1) (short-out (a .0) _ (d .useful)) l) (z .1)
+    way-fails (a .0) _ (d .useful) (z .0) (way-stands (a .1 .1 .1) (led-out (a .0) (d .useful)) l) (z .1)
 
 slice-aggregate-ways-in : tie.Need-slice-aggregate-ways-in
 slice-aggregate-ways-in c = search needs
@@ -65,7 +67,7 @@ slice-aggregate-ways-in-2 c = search needs
 ways-in-requires : tie.Need-ways-in-requires
 ways-in-requires c κs =
     let a = begin (at-step c) .pre in
-    (a .0 .valid, (a .1 .0, (a .0 .ways .pairs, (refl, refl))))
+    (a .0 .valid, (a .1 .0, (a .0 .ways .pairs, (refl, (refl, filled 0 mostPairs)))))
 
 slice-aggregate-round : tie.Need-slice-aggregate-round
 slice-aggregate-round c = search needs
@@ -77,10 +79,8 @@ round-requires : tie.Need-round-requires
 round-requires c κs =
     let w = entered c .ways-in in
     let a = begin (at-step (entered c .before)) .pre in
-    let u = a .1 .1 .0 .useful in (
-      record { long-into = w .kept .1 .1 .1 .0; long-into-step = w .kept .1 .1 .1 .1 .0; long-out = a .0 .long-out; long-out-step = a .0 .long-out-step; long-steps = a .1 .1 .1 },
-      (short-in (a .0) (w .ensures) _ u, short-out (a .0) _ u),
-    )
+    let u = a .1 .1 .0 .useful in
+    (ways-of (a .0) (w .ensures) (w .kept .1 .1 .1 .0) (w .kept .1 .1 .1 .1 .0) u u, a .1 .1 .1)
 
 mul-differs : tie.Need-mul-differs
 mul-differs c = search needs
@@ -98,7 +98,7 @@ differs-requires : tie.Need-differs-requires
 differs-requires c κs =
     let e = entered (round c .before) in
     let a = begin (at-step (e .before)) .pre in
-    round-candidate (a .0) (e .ways-in .ensures) (a .1 .1 .0 .useful) (round c .round .ensures)
+    round-candidate (a .0) (e .ways-in .ensures) _ (a .1 .1 .0 .useful) (round c .round .ensures)
 
 same-length-2 : tie.Need-same-length-2
 same-length-2 c = search needs
@@ -108,7 +108,7 @@ returns-2 c =
     let r = round (c .before .before) in
     let e = entered (r .before) in
     let a = begin (at-step (e .before)) .pre in
-    round-fails (a .0) (e .ways-in .ensures) (a .1 .1 .0 .useful) (r .round .ensures) (c .before .differs .ensures .different (c .if2 .taken))
+    round-fails (a .0) (e .ways-in .ensures) _ (a .1 .1 .0 .useful) (r .round .ensures) (c .before .differs .ensures .different (c .if2 .taken))
 
 slice-aggregate-through : tie.Need-slice-aggregate-through
 slice-aggregate-through c = search needs
@@ -124,8 +124,8 @@ through-requires c κs =
     let b = at-step (e .before) in
     let a = begin b .pre in
     let d = a .1 .1 .0 in (
-      record { long-into = w .kept .1 .1 .1 .0; long-into-step = w .kept .1 .1 .1 .1 .0; long-out = a .0 .long-out; long-out-step = a .0 .long-out-step; long-steps = r .round .kept .1 .1 .1 .1 .1 .0 ∙ a .1 .1 .1 },
-      (short-in (a .0) (w .ensures) _ (d .useful), short-out (a .0) _ (d .step (b .if1 .left) .0)),
+      ways-of (a .0) (w .ensures) (w .kept .1 .1 .1 .0) (w .kept .1 .1 .1 .1 .0) (d .useful) (d .step (b .if1 .left) .0),
+      r .round .kept .1 .1 .1 .1 .1 .0 ∙ a .1 .1 .1,
     )
 
 same-length-3 : tie.Need-same-length-3
@@ -141,7 +141,7 @@ returns-3 c =
     let a = begin b .pre in
     let d = a .1 .1 .0 in
     let z = d .step (b .if1 .left) in
-    through-fails (a .0) (e .ways-in .ensures) (d .useful) (z .0) (z .1) (r .round .ensures) (g .differs .ensures .same (f .before .before .before .if2 .left))
+    through-fails (a .0) (e .ways-in .ensures) _ _ _ (d .useful) (z .0) (z .1) (r .round .ensures) (g .differs .ensures .same (f .before .before .before .if2 .left))
     (written c .through .ensures) (z .2)
 
 pub walk-spec : {M : Type 1} → statement M

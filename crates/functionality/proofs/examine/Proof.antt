@@ -2,6 +2,8 @@
 use mathlib.Core.Path.{refl}
 use borrow.Author.Needs.{needs}
 use Rattle.transducer.proofs.AcceptedLaws.{accepted-valid}
+use Rattle.product.specs.Numbers.{mostPairs}
+use Rattle.pairs.proofs.UsefulLaws.{filled}
 use Rattle.functionality.proofs.VerdictLaws.{refusal-none, counted, decides-single}
 use Rattle.functionality.proofs.examine.Statement.{statement}
 use Rattle.functionality.proofs.examine.Tie as tie
@@ -44,7 +46,7 @@ slice-aggregate-ways-out-4 : tie.Need-slice-aggregate-ways-out-4
 slice-aggregate-ways-out-4 c = search needs
 
 ways-out-requires : tie.Need-ways-out-requires
-ways-out-requires c κs = (start (built c .before) .pre .0, (built c .by-input .ensures, (refl, (refl, refl))))
+ways-out-requires c κs = (start (built c .before) .pre .0, (built c .by-input .ensures, (refl, (refl, (refl, filled 0 mostPairs)))))
 
 slice-aggregate-search : tie.Need-slice-aggregate-search
 slice-aggregate-search c = search needs

@@ -42,7 +42,7 @@ show-requires : tie.Need-show-requires
 show-requires c κs =
     let f = found c .walk .ensures in
     let a = start (found c .before) .pre in
-    (record { valid = valid (a .0); whole = f .whole; short = omega (arith, f .short, few (a .0)) }, (f .differ, full _ (a .1 .1 .1)))
+    (record { candidate = record { valid = valid (a .0); whole = f .apart .whole; short = omega (arith, f .short, few (a .0)) }; differ = f .apart .differ }, full _ (a .1 .1 .1))
 
 same-length : tie.Need-same-length
 same-length c = search needs

@@ -7,7 +7,7 @@ use borrow.Author.Tests.{eqb-true, eq-eqb}
 use Rattle.transducer.specs.Limits.{mostOutputs}
 use Rattle.witness.specs.Sides.{takenOf}
 use Rattle.delays.specs.Outputs.{countAt}
-use Rattle.delays.proofs.WayOutLaws.{taken-low}
+use Rattle.witness.proofs.SideLaws.{taken-small}
 use borrow.Author.Needs.{needs}
 use Rattle.delays.proofs.equation.even.Statement.{statement}
 use Rattle.delays.proofs.equation.even.Tie as tie
@@ -23,7 +23,7 @@ right-is : (c : tie.After-count2) → let a = start c .args in c .count2 .result
 right-is c = c .count2 .ensures ∙ ap (countAt (start c .args .written .now)) (c .before .taken2 .ensures)
 
 few : (right : Bool) (c : tie.After-count2) → let a = start c .args in countAt (a .written .now) (takenOf right (a .label)) ≤ mostOutputs
-few right c = start c .pre .0 .few _ (taken-low right _ (start c .pre .1 .0))
+few right c = start c .pre .0 .few _ (taken-small right _ (start c .pre .1 .0))
 
 taken-requires : tie.Need-taken-requires
 taken-requires c κs = search needs

@@ -5,8 +5,9 @@ use native.Mathlib.Omega.{arith}
 use borrow.Author.Needs.{needs}
 use lib.ListN.{length, getD}
 use Rattle.transducer.specs.Limits.{mostOutputs}
-use Rattle.delays.specs.WaysOut.{hopsOf}
-use Rattle.delays.proofs.WayOutLaws.{Onward, onward-to, taken-low}
+use Rattle.worklist.specs.Links.{wayFrom}
+use Rattle.witness.proofs.SideLaws.{taken-small}
+use Rattle.delays.proofs.WayOutLaws.{Onward, onward-to}
 use Rattle.delays.proofs.NeedLaws.{Pending, pending-none, pending-room, pending-more, pending-whole}
 use Rattle.delays.proofs.equation.whole.Statement.{statement}
 use Rattle.delays.proofs.equation.whole.Tie as tie
@@ -16,7 +17,7 @@ Inv-loop written out out-step right v word₀ to₀ node₀ next₀ word to node
     Pending written out out-step right v word₀ 0 word to node × (next ≡ getD out node 0)
 
 abbrev μ-loop : tie.MeasureT-loop
-μ-loop written out out-step right v word₀ to₀ node₀ next₀ word to node next = hopsOf out out-step node
+μ-loop written out out-step right v word₀ to₀ node₀ next₀ word to node next = length (wayFrom out out-step node)
 
 -- the entry, from the loop; the turn, from its later places
 abbrev start : tie.At-loop Inv-loop μ-loop → tie.Start Inv-loop μ-loop
@@ -31,7 +32,7 @@ ahead : (c : tie.In-loop Inv-loop μ-loop)
     (c .before .loop .next - 1)
 ahead c =
     let i = c .before .loop .inv in
-    onward-to (start (c .before) .args .written .now) (i .0 .here) (i .1) (c .loop-test .taken)
+    onward-to (start (c .before) .pre .0 .links) (start (c .before) .args .written .now) (i .0 .here) (i .1) (c .loop-test .taken)
 
 room : (c : tie.In-loop Inv-loop μ-loop) → c .before .loop .to + mostOutputs ≤ length (c .before .loop .word)
 room c =
@@ -43,7 +44,7 @@ mul-next : tie.Need-mul-next Inv-loop μ-loop
 mul-next c = omega (arith, c .before .before .before .before .pre .1 .0 .inside)
 
 shared-slice-read-next : tie.Need-shared-slice-read-next Inv-loop μ-loop
-shared-slice-read-next c = let a = c .before .before .before .before .before in omega (arith, a .pre .1 .0 .inside, a .pre .0 .long-link)
+shared-slice-read-next c = let a = c .before .before .before .before .before in omega (arith, a .pre .1 .0 .inside, a .pre .0 .links .long-link)
 
 loop-holds : tie.Need-loop-holds Inv-loop μ-loop
 loop-holds c = (pending-none (c .before .before .before .before .before .pre .1 .0) (omega arith), refl)
@@ -54,7 +55,7 @@ mul-taken c = omega (arith, c .before .loop .inv .0 .here .inside)
 shared-slice-read-taken : tie.Need-shared-slice-read-taken Inv-loop μ-loop
 shared-slice-read-taken c =
     let l = c .before .before in
-    omega (arith, l .loop .inv .0 .here .inside, start l .pre .0 .long-label)
+    omega (arith, l .loop .inv .0 .here .inside, start l .pre .0 .links .long-label)
 
 taken-requires : tie.Need-taken-requires Inv-loop μ-loop
 taken-requires c κs = search needs
@@ -65,7 +66,7 @@ put-requires c κs =
     let a = start (i .before) in (
       a .pre .0 .outputs,
       (
-        omega (arith, taken-low (a .args .right) (getD (a .args .out-step .now) (i .before .loop .node) 0) (ahead i .low-label), c .before .taken .ensures),
+        omega (arith, taken-small (a .args .right) (getD (a .args .out-step .now) (i .before .loop .node) 0) (ahead i .low-label), c .before .taken .ensures),
         omega (arith, room i),
       ),
     )
@@ -82,7 +83,7 @@ mul-next-2 c = omega (arith, ahead (turn c) .led-next .inside)
 shared-slice-read-next-2 : tie.Need-shared-slice-read-next-2 Inv-loop μ-loop
 shared-slice-read-next-2 c =
     let i = turn (c .before) in
-    omega (arith, ahead i .led-next .inside, start (i .before) .pre .0 .long-link)
+    omega (arith, ahead i .led-next .inside, start (i .before) .pre .0 .links .long-link)
 
 loop-less : tie.Need-loop-less Inv-loop μ-loop
 loop-less c = omega (arith, ahead (turn (c .before)) .fewer)
