@@ -66,7 +66,7 @@ unfolding writtenOn
 word-ends written l h right = ap (writtenOn written right) (chain-none (l .chain) h)
 
 module _ {written link label : List ℕ} (lists : Lists written link label) where
-  -- each link writes at most eight codes
+  -- each link writes at most `mostOutputs` codes
   written-few : (right : Bool) {v : ℕ} {ls : List ℕ} → Chain link label v ls → length (writtenOn written right ls) ≤ mostOutputs * length ls
   unfolding writtenOn
   written-few right (Chain.root e) = omega arith

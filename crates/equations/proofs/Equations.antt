@@ -2,11 +2,11 @@
 -- write to be level with the other, where that way is to come; one of the two needs is empty. Assumes nothing.
 use mathlib.Core.Path.{_≡_, refl, ap, sym, _∙_}
 use mathlib.Core.Bool.{Bool, true, false, not}
-use mathlib.Core.List.{List, [], _∷_, _++_, append-assoc, append-nil}
+use mathlib.Core.List.{List, [], _∷_, _++_, append-assoc}
 use Prim.Native.Nat.{ℕ}
 use Rattle.transducer.specs.StateSet.{In}
 use Rattle.transducer.specs.Transition.{OutputWord}
-use Rattle.transducer.specs.Paths.{writes, outputTo, Functional}
+use Rattle.transducer.specs.Paths.{writes, Functional}
 use Rattle.transducer.specs.Useful.{UsefulPair}
 use Rattle.transducer.specs.Walks.{Step, Move, Reaches, Leaves}
 use Rattle.transducer.specs.declared.Transducer.{Transducer}

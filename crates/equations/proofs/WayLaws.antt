@@ -4,7 +4,7 @@ use mathlib.Core.Path.{_≡_, sym, ap, subst, _∙_}
 use mathlib.Core.List.{List, [], _∷_, _++_, map-append, reverse, reverse-cons}
 use Prim.Native.Nat.{ℕ, _+_, _-_, _≤_, _<_}
 use native.Mathlib.Omega.{arith}
-use lib.ListN.{length, getD}
+use lib.ListN.{getD}
 use Rattle.worklist.specs.Search.{Chain}
 use Rattle.worklist.specs.Links.{wayFrom}
 use Rattle.worklist.proofs.Chains.{chain-none}
@@ -13,17 +13,14 @@ use Rattle.transducer.specs.StateSet.{In}
 use Rattle.transducer.specs.Accepted.{acceptedOf}
 use Rattle.transducer.specs.Useful.{UsefulPair}
 use Rattle.transducer.specs.Walks.{Step, Reaches, Leaves}
-use Rattle.transducer.specs.declared.StateSet.{StateSet}
 use Rattle.transducer.specs.declared.Transducer.{Transducer}
 use Rattle.transducer.proofs.MoveLaws.{move-walk}
 use Rattle.transducer.proofs.WalkLaws.{walk-nil, reaches-step, leaves-step}
-use Rattle.product.specs.Numbers.{mostPairs, pairOf, firstOf, secondOf, stepOf, Moves}
-use Rattle.product.proofs.LabelLaws.{label-low}
+use Rattle.product.specs.Numbers.{mostPairs, pairOf, firstOf, secondOf, stepOf}
 use Rattle.pairs.specs.Ways.{Useful, MovesBack, Way, WaysOut, WayIn}
 use Rattle.pairs.specs.declared.UsefulPairs.{UsefulPairs}
 use Rattle.pairs.proofs.PairSetLaws.{pair-low, at-most-pairs}
 use Rattle.witness.specs.Walk.{walkOf}
-use Rattle.delays.specs.WaysOut.{Led}
 
 -- labels joined are steps joined
 pub walk-append : (x y : List ℕ) → walkOf (x ++ y) ≡ walkOf x ++ walkOf y

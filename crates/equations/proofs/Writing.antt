@@ -1,7 +1,7 @@
 -- A way that is being written, last step first on the way in and first step first on the way out: what is left to write has the same
 -- outcome. One law for each turn of the loops. Assumes nothing.
 use mathlib.Core.Path.{_≡_, refl, sym, ap, _∙_}
-use mathlib.Core.List.{List, [], _∷_, _++_, reverse, reverse-cons}
+use mathlib.Core.List.{List, [], _∷_, reverse, reverse-cons}
 use Prim.Native.Nat.{ℕ, _+_, _-_, _≤_, _<_}
 use native.Mathlib.Nat.{sub-zero}
 use native.Mathlib.Omega.{arith}
@@ -10,7 +10,6 @@ use Rattle.buffers.specs.Put.{put}
 use Rattle.buffers.proofs.PutLaws.{put-none, put-one, put-behind, put-before}
 use Rattle.worklist.specs.Links.{wayFrom}
 use Rattle.worklist.proofs.Chains.{chain-none}
-use Rattle.product.specs.Numbers.{mostPairs}
 use Rattle.delays.specs.WaysOut.{Links, Led}
 use Rattle.delays.proofs.WayOutLaws.{Onward, onward-to}
 use Rattle.equations.specs.Links.{mostSteps, middle, EnteredBy, LeftBy}

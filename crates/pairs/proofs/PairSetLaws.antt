@@ -1,5 +1,5 @@
 -- Laws of sets of pairs and of the answer `UsefulPairsOf`: what a search that has found exactly the useful pairs answers; that the contract
--- determines the answer; that there are at most 1,024 useful pairs; that transducers that are equal up to order have the same answer.
+-- determines the answer; that there are at most `mostPairs` useful pairs; that transducers that are equal up to order have the same answer.
 -- Assumes nothing.
 use mathlib.Core.Path.{_≡_, refl, sym, ap, _∙_}
 use mathlib.Core.Bool.{Bool, true, false, _&&_, cond}
@@ -15,7 +15,6 @@ use lib.ListN.{length, getD, set, replicate, length-set, length-map, length-repl
 use lib.Seq.{getD-set-same, getD-set-other, ext-getD}
 use Rattle.worklist.specs.Lists.{Worklist, Found, zeros}
 use Rattle.transducer.specs.Limits.{mostStates}
-use Rattle.transducer.specs.Valid.{Valid}
 use Rattle.transducer.specs.Accepted.{acceptedOf}
 use Rattle.transducer.specs.Alike.{Alike}
 use Rattle.transducer.specs.declared.StateSet.{StateSet}
@@ -35,12 +34,12 @@ use Rattle.pairs.proofs.UsefulLaws.{useful-low}
 
 -- ---- what a set holds
 
--- below 32 the flag decides
+-- below `mostStates` the flag decides
 pub has-pair : (s : PairSet) (p q : ℕ) → p < mostStates → q < mostStates → hasPair s p q ≡ getD (s .member) (pairOf p q) false
 unfolding hasPair
 has-pair s p q h k = rw (lt-ltb p mostStates h, lt-ltb q mostStates k)
 
--- a pair of a set has states below 32
+-- a pair of a set has states below `mostStates`
 pub pair-low : (s : PairSet) (p q : ℕ) → hasPair s p q ≡ true → (p < mostStates) × (q < mostStates)
 unfolding hasPair
 pair-low s p q h =
@@ -145,7 +144,7 @@ useful-pairs-determined {t} {r} {r′} a a′ =
             (λ p q. same-flag _ _ (λ h. a′ .members e p q .1 (a .members e p q .0 h)) (λ h. a .members e p q .1 (a′ .members e p q .0 h)))
         go false e = a .refused e ∙ sym (a′ .refused e)
 
--- there are at most 1,024 useful pairs
+-- there are at most `mostPairs` useful pairs
 pub at-most-pairs : {t : Transducer} {r : UsefulPairs} → UsefulPairsOf t r → r .count ≤ mostPairs
 at-most-pairs {r = r} a = omega (arith, a .counted, count-most (r .set .member), a .long)
 

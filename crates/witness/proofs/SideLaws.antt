@@ -38,7 +38,7 @@ pub side-cons : (r : Bool) (k : ℕ) (labels : List ℕ) → Label k
 side-cons true k labels h = rw (step-takes k h .1)
 side-cons false k labels h = rw (step-takes k h .0)
 
--- a label has at most 256 on each side
+-- a label has at most `noTransition` on each side
 pub taken-small : (r : Bool) (k : ℕ) → Label k → takenOf r k ≤ noTransition
 taken-small true k h = h .1
 taken-small false k h = omega (arith, h .0)

@@ -1,5 +1,5 @@
 -- Laws of chains of links, over any lists: a chain goes on with what is behind its first link, and it is the way from its node.
-use mathlib.Core.Path.{_≡_, refl, ap}
+use mathlib.Core.Path.{_≡_, refl}
 use mathlib.Core.List.{List, [], _∷_}
 use Prim.Native.Nat.{ℕ, zero, suc, _+_, _-_, _≤_}
 use native.Mathlib.Omega.{arith}

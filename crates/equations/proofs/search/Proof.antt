@@ -18,8 +18,12 @@ start c = c .before .before .before .before .before .before
 abbrev outputs : tie.After-fill2 → tie.After-fill
 outputs c = c .before .before .before .before
 
+-- where the memory for the flags is there
+abbrev tested-list : tie.After-tested → tie.After-fill2
+tested-list c = c .before .before .before .before .before
+
 abbrev gaps : tie.After-y → tie.After-fill2
-gaps c = c .before .before .before .before .before .before .before .before .before
+gaps c = tested-list (c .before .before .before .before)
 
 abbrev tried : tie.After-y2 → tie.After-try-pairs
 tried c = c .before .before .before .before .before

@@ -8,8 +8,12 @@ use Rattle.equations.proofs.try_from.Tie as tie
 
 -- ---- places: v is level, or not
 
+-- where the lists that are read are lent
+abbrev lent : tie.After-shared-slice-known5 → tie.Start
+lent c = c .before .before .before .before .before
+
 abbrev entry : tie.After-slice-known6 → tie.Start
-entry c = c .before .before .before .before .before .before .before .before .before .before .before
+entry c = lent (c .before .before .before .before .before .before)
 
 abbrev start : tie.Else1 → tie.Start
 start c = entry (c .before)

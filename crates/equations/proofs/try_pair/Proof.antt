@@ -7,8 +7,12 @@ use Rattle.equations.proofs.try_pair.Tie as tie
 
 -- ---- places: the test of start states, the copies, the tests at the steps
 
+-- where the lists that are read are lent
+abbrev lent : tie.After-shared-slice-known7 → tie.Start
+lent c = c .before .before .before .before .before .before .before
+
 abbrev start : tie.After-uneven-start → tie.Start
-start c = c .before .before .before .before .before .before .before .before .before .before .before
+start c = lent (c .before .before .before .before)
 
 abbrev uneven : tie.After-lack → tie.After-uneven-start
 uneven c = c .before .before

@@ -16,8 +16,12 @@ abbrev μ-loop : tie.MeasureT-loop
 
 -- ---- places: the start, a turn of the loop, its tests
 
+-- where the lists that are read are lent
+abbrev lent : tie.After-shared-slice-known6 Inv-loop μ-loop → tie.Start Inv-loop μ-loop
+lent c = c .before .before .before .before .before .before
+
 abbrev entry : tie.After-slice-known5 Inv-loop μ-loop → tie.Start Inv-loop μ-loop
-entry c = c .before .before .before .before .before .before .before .before .before .before .before
+entry c = lent (c .before .before .before .before .before)
 
 abbrev start : tie.At-loop Inv-loop μ-loop → tie.Start Inv-loop μ-loop
 start c = entry (c .before)
@@ -25,8 +29,12 @@ start c = entry (c .before)
 abbrev turn : tie.After-try-from Inv-loop μ-loop → tie.In-loop Inv-loop μ-loop
 turn c = c .before .before .before .before .before .before .before
 
+-- where the first of the lists that `try_from` wrote to are handed back
+abbrev handed-back : tie.After-right Inv-loop μ-loop → tie.After-try-from Inv-loop μ-loop
+handed-back c = c .before .before .before .before .before
+
 abbrev tried : tie.After-struct-known Inv-loop μ-loop → tie.After-try-from Inv-loop μ-loop
-tried c = c .before .before .before .before .before .before .before .before .before .before .before
+tried c = handed-back (c .before .before .before .before .before .before)
 
 -- ---- needs
 

@@ -30,8 +30,12 @@ abbrev μ-loop : tie.MeasureT-loop
 abbrev first-word : tie.After-whole2 Inv-loop μ-loop → tie.After-whole Inv-loop μ-loop
 first-word c = c .before .before .before .before
 
+-- where the lists that are read are lent
+abbrev lent : tie.After-shared-slice-known5 Inv-loop μ-loop → tie.Start Inv-loop μ-loop
+lent c = c .before .before .before .before .before
+
 abbrev entry : tie.After-whole-arg Inv-loop μ-loop → tie.Start Inv-loop μ-loop
-entry c = c .before .before .before .before .before .before .before .before .before .before .before
+entry c = lent (c .before .before .before .before .before .before)
 
 abbrev start : tie.After-whole Inv-loop μ-loop → tie.Start Inv-loop μ-loop
 start c = entry (c .before)

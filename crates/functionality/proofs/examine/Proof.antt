@@ -22,8 +22,12 @@ led c = c .before .before .before .before .before .before .before
 abbrev single : tie.After-quiet → tie.After-search
 single c = c .before .before .before
 
+-- where the lists are handed on
+abbrev handed-on : tie.After-split-arg → tie.Else1
+handed-on c = c .before .before .before .before
+
 abbrev failing : tie.After-split-arg5 → tie.Else1
-failing c = c .before .before .before .before .before .before .before .before
+failing c = handed-on (c .before .before .before .before)
 
 -- ---- needs
 

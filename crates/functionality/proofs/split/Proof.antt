@@ -9,14 +9,26 @@ use Rattle.functionality.proofs.split.Tie as tie
 
 -- ---- places: the walk is found, and shown
 
+-- where the lists that are read are lent
+abbrev lent : tie.After-shared-slice-known3 → tie.Start
+lent c = c .before .before .before
+
 abbrev start : tie.After-steps → tie.Start
-start c = c .before .before .before .before .before .before .before .before .before
+start c = lent (c .before .before .before .before .before .before)
+
+-- where the walk is cut out of the list
+abbrev cut : tie.After-steps3 → tie.After-walk
+cut c = c .before .before
 
 abbrev found : tie.After-show-arg6 → tie.After-walk
-found c = c .before .before .before .before .before .before .before .before
+found c = cut (c .before .before .before .before .before .before)
+
+-- where the first of the buffers are handed back
+abbrev handed-back : tie.After-path-b → tie.After-show
+handed-back c = c .before .before .before .before .before
 
 abbrev shown : tie.After-slice-known10 → tie.After-show
-shown c = c .before .before .before .before .before .before .before .before .before .before
+shown c = handed-back (c .before .before .before .before .before)
 
 -- ---- needs
 

@@ -29,8 +29,12 @@ abbrev μ-loop : tie.MeasureT-loop
 
 -- ---- places: the start, a row, a step of it, the test of the step
 
+-- where the lists that are read are lent
+abbrev lent : tie.After-shared-slice-known7 Inv-loop2 μ-loop2 Inv-loop μ-loop → tie.Start Inv-loop2 μ-loop2 Inv-loop μ-loop
+lent c = c .before .before .before .before .before .before .before
+
 abbrev entry : tie.After-slice-known2 Inv-loop2 μ-loop2 Inv-loop μ-loop → tie.Start Inv-loop2 μ-loop2 Inv-loop μ-loop
-entry c = c .before .before .before .before .before .before .before .before .before
+entry c = lent (c .before .before)
 
 abbrev start : tie.At-loop Inv-loop2 μ-loop2 Inv-loop μ-loop → tie.Start Inv-loop2 μ-loop2 Inv-loop μ-loop
 start c = entry (c .before .before .before)
