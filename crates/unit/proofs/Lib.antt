@@ -1,4 +1,6 @@
 -- How the contracts are met; `Boundary` is the statement of specs/Laws.antt, proved.
 mod Codes
 mod CallLaws
+mod UsefulCalls
+mod FileCalls
 pub mod Boundary

@@ -66,7 +66,7 @@ pub record Flagged (Property : ℕ → Type 0) (n : ℕ) (flags flags′ : List 
   pub exactly : (i : ℕ) → i < n → (getD members i false ≡ true) ↔ Property i
   pub list : flags′ ≡ put flags 0 (map flagOf members)
 
--- refused are, in this order, the file, fewer than 32 places for the flags
+-- refused are, in this order, the file, fewer than mostStates places for the flags
 unfoldable pub statesCode : List ℕ → List ℕ → ℕ
 statesCode f flags = firstOf (fileCode f ∷ roomFault mostStates flags tooShort ∷ [])
 
@@ -76,11 +76,11 @@ pub record StatesGiven (f flags flags′ : List ℕ) (r : ℕ) : Type 0 where
   pub refused : r ≢ 0 → flags′ ≡ flags
   pub done : r ≡ 0 → Flagged (UsefulState (tableOf f)) mostStates flags flags′
 
--- refused are, in this order, an answer list that is too short, the file, fewer than 1,024 places for the flags
+-- refused are, in this order, an answer list that is too short, the file, fewer than mostPairs places for the flags
 unfoldable pub pairsCode : List ℕ → List ℕ → List ℕ → ℕ
 pairsCode f flags a = firstOf (roomFault pairsAnswer a answerTooShort ∷ fileCode f ∷ roomFault mostPairs flags tooShort ∷ [])
 
--- flag 32 p + q says whether the pair (p, q) is useful, and u stands at the front of the answer list
+-- the flag of the pair's number says whether the pair (p, q) is useful, and u stands at the front of the answer list
 pub record PairsIn (f flags flags′ a a′ : List ℕ) : Type 0 where
   pub flagged : Flagged (λ i. UsefulPair (tableOf f) (pair.firstOf i) (pair.secondOf i)) mostPairs flags flags′
   pub useful : ℕ

@@ -73,7 +73,7 @@ pub extern "C" fn yotselina_translate(
     answers::give(answer, &numbers, translation.number, translation.record)
 }
 
-// Puts a flag for each of the 32 states to the front of `flags`: whether it is useful.
+// Puts a flag for each of limits::STATES states to the front of `flags`: whether it is useful.
 #[no_mangle]
 pub extern "C" fn yotselina_useful_states(file: &[u8], flags: &mut [u8]) -> u32
     ensures { λ r. ⌜ StatesGiven (now (file .entry)) (now (flags .entry)) (now (flags .exit)) r ⌝ }
@@ -95,7 +95,7 @@ pub extern "C" fn yotselina_useful_states(file: &[u8], flags: &mut [u8]) -> u32
     0
 }
 
-// Puts a flag for each of the 1,024 pairs of states to the front of `flags`: whether it is useful; the answer is u.
+// Puts a flag for each of PAIRS pairs of states to the front of `flags`: whether it is useful; the answer is u.
 #[no_mangle]
 pub extern "C" fn yotselina_useful_pairs(file: &[u8], flags: &mut [u8], answer: &mut [u64]) -> u32
     ensures { λ r. ⌜

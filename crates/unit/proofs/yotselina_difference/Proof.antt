@@ -1,6 +1,6 @@
 -- `yotselina_difference` meets its contract: its two numbers are those of the callees. Assumes nothing.
 use borrow.Author.Needs.{needs}
-use Rattle.unit.proofs.CallLaws.{difference-short, difference-given}
+use Rattle.unit.proofs.FileCalls.{difference-short, difference-given}
 use Rattle.unit.proofs.yotselina_difference.Statement.{statement}
 use Rattle.unit.proofs.yotselina_difference.Tie as tie
 

@@ -3,7 +3,7 @@ use mathlib.Core.Path.{_≡_, sym, _∙_}
 use borrow.Author.Needs.{needs}
 use Rattle.answers.specs.Answers.{fileCode}
 use Rattle.unit.proofs.Codes.{code-read}
-use Rattle.unit.proofs.CallLaws.{pairs-answer-short, pairs-refused, pairs-short, pairs-given}
+use Rattle.unit.proofs.UsefulCalls.{pairs-answer-short, pairs-refused, pairs-short, pairs-given}
 use Rattle.unit.proofs.yotselina_useful_pairs.Statement.{statement}
 use Rattle.unit.proofs.yotselina_useful_pairs.Tie as tie
 

@@ -3,7 +3,7 @@ use mathlib.Core.Path.{_≡_, sym, _∙_}
 use borrow.Author.Needs.{needs}
 use Rattle.answers.specs.Answers.{fileCode}
 use Rattle.unit.proofs.Codes.{code-read}
-use Rattle.unit.proofs.CallLaws.{states-refused, states-short, states-given}
+use Rattle.unit.proofs.UsefulCalls.{states-refused, states-short, states-given}
 use Rattle.unit.proofs.yotselina_useful_states.Statement.{statement}
 use Rattle.unit.proofs.yotselina_useful_states.Tie as tie
 

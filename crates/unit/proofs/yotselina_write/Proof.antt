@@ -3,7 +3,7 @@ use mathlib.Core.Path.{_≡_, sym, _∙_}
 use borrow.Author.Needs.{needs}
 use Rattle.answers.specs.Answers.{fileCode}
 use Rattle.unit.proofs.Codes.{code-read}
-use Rattle.unit.proofs.CallLaws.{file-answer-short, file-refused, file-answered}
+use Rattle.unit.proofs.FileCalls.{file-answer-short, file-refused, file-answered}
 use Rattle.unit.proofs.yotselina_write.Statement.{statement}
 use Rattle.unit.proofs.yotselina_write.Tie as tie
 
