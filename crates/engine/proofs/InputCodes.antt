@@ -1,4 +1,4 @@
--- What a path of a valid transducer reads has input codes only, 1 to 250. Assumes nothing.
+-- What a path of a valid transducer reads has input codes only. Assumes nothing.
 use mathlib.Core.Path.{_≡_, ap}
 use mathlib.Core.List.{List, [], _∷_, _++_}
 use Prim.Native.Nat.{ℕ, zero, suc, _≤_}

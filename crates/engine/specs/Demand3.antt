@@ -31,7 +31,7 @@ pub record JudgedInFull (f : List ℕ) (b b′ : Buffers) (r : Judgement) : Type
   pub full : fullOf b ≡ true
   pub judged : Judged f b b′ r
 
--- q is the translator's answer to a word by the file f from a buffer out₀ of 65,528 places or more, and out is what it leaves there
+-- q is the translator's answer to a word by the file f from a buffer out₀ of mostWritten places or more, and out is what it leaves there
 pub record TranslatedInFull (f input out₀ out : List ℕ) (q : FileTranslation) : Type 0 where
   pub room : mostWritten ≤ length out₀
   pub translated : FileTranslated f input out₀ out q

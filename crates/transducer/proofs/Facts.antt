@@ -18,7 +18,7 @@ use Rattle.transducer.proofs.Bools.{le-or-lt, and-left, and-right, and-
 
 -- ---- a set of states
 
--- a state in a set is below 32
+-- a state in a set is below mostStates
 pub in-below : (s : StateSet) (q : ℕ) → In s q → q < mostStates
 unfolding has
 in-below s q h = ltb-true q mostStates (and-left (ltb q mostStates) (getD (s .member) q false) h)

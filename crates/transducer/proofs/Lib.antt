@@ -5,6 +5,7 @@ pub mod AcceptedLaws
 pub mod StateSetLaws
 pub mod PathLaws
 pub mod FunctionalLaws
+pub mod ZipLaws
 pub mod WalkLaws
 pub mod MoveLaws
 pub mod LineLaws

@@ -1,11 +1,10 @@
--- Laws of paths: what joined paths read and write, how paths are joined and cut, and accepting paths that pass through a state. Assumes nothing.
+-- Laws of paths: what joined paths read and write, and how paths are joined and cut. Assumes nothing.
 use mathlib.Core.Path.{_≡_, refl}
 use mathlib.Core.List.{List, [], _∷_, _++_, append-assoc}
 use Prim.Native.Nat.{ℕ, zero, suc, _<_}
 use native.Mathlib.Omega.{arith}
 use lib.ListN.{length, getD}
-use Rattle.transducer.specs.Paths.{Path, here, step, reads, writes, outputTo, Accepting}
-use Rattle.transducer.specs.Useful.{Through}
+use Rattle.transducer.specs.Paths.{Path, here, step, reads, writes, outputTo}
 use Rattle.transducer.specs.declared.Transducer.{Transducer}
 
 module _ (t : Transducer) where
@@ -35,13 +34,6 @@ module _ (t : Transducer) where
     pub front : Path t p π middle
     pub back : Path t middle ρ r
 
-  -- an accepting path cut in two: the state in the middle, and the same path through it
-  pub record AcceptingCut (π ρ : List ℕ) : Type 0 where
-    pub middle : ℕ
-    pub through : Through t middle
-    pub front : through .front ≡ π
-    pub back : through .back ≡ ρ
-
 module _ {t : Transducer} where
   -- the empty path leads from a state to itself
   pub path-nil : {p q : ℕ} → Path t p [] q → p ≡ q
@@ -62,28 +54,3 @@ module _ {t : Transducer} where
   path-below (here e) i h = absurd (omega arith)
   path-below (step a b k) zero h = a
   path-below (step a b k) (suc i) h = path-below k i (omega arith)
-
-  -- an accepting path passes through the state where it is cut
-  pub accepting-through : (π ρ : List ℕ) → Accepting t (π ++ ρ) → AcceptingCut t π ρ
-  accepting-through π ρ a =
-      let c = path-cut π (a .path) in
-      record {
-        middle = c .middle;
-        through =
-            record {
-              first = a .first;
-              last = a .last;
-              front = π;
-              back = ρ;
-              starts = a .starts;
-              comes = c .front;
-              goes = c .back;
-              ends = a .ends;
-            };
-        front = refl;
-        back = refl;
-      }
-
-  -- the two halves of a path through a state are together an accepting path
-  pub through-accepting : {q : ℕ} (h : Through t q) → Accepting t (h .front ++ h .back)
-  through-accepting h = record { first = h .first; last = h .last; starts = h .starts; path = path-join (h .comes) (h .goes); ends = h .ends }

@@ -6,7 +6,7 @@ use Prim.Native.Nat.{ℕ}
 use Rattle.transducer.specs.StateSet.{In}
 use Rattle.transducer.specs.Transition.{InputWord, OutputWord, at}
 use Rattle.transducer.specs.Lines.{linesOf, transducerOf, Among}
-use Rattle.transducer.specs.Paths.{Path, here, step, reads, writes, Relates, Functional, Witness}
+use Rattle.transducer.specs.Paths.{Path, here, step, reads, writes, Relates, Functional}
 use Rattle.transducer.specs.Useful.{Through, UsefulState, UsefulPair}
 use Rattle.transducer.specs.declared.StateSet.{StateSet}
 use Rattle.transducer.specs.declared.Transition.{Transition}
@@ -76,10 +76,6 @@ module _ {t t′ : Transducer} (h : Within t t′) where
   -- if t′ is functional, so is t
   pub functional-within : Functional t′ → Functional t
   functional-within f x y z r s = f x y z (relates-within r) (relates-within s)
-
-  -- a witness of t is one of t′
-  pub witness-within : {x : InputWord} {y z : OutputWord} → Witness t x y z → Witness t′ x y z
-  witness-within w = record { one = relates-within (w .one); other = relates-within (w .other); differ = w .differ }
 
   -- a useful state of t is useful in t′: an accepting path passes through it there too
   pub useful-state-within : {q : ℕ} → UsefulState t q → UsefulState t′ q

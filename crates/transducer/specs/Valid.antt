@@ -17,7 +17,7 @@ codeAt v j = outputAt v j .0
 
 -- ---- the rules as facts
 
--- a transition in use, among n states: it leaves and enters a state, its input is 0 to 250, it has 0 to 8 output codes of 1 to 250,
+-- a transition in use, among n states: it leaves and enters a state, its input is 0 or a code, it has at most mostOutputs output codes,
 -- and the places beyond hold 0
 pub record Used (n : ℕ) (v : Transition) : Type 0 where
   pub from-state : v .from < n
@@ -36,7 +36,7 @@ pub record Clear (v : Transition) : Type 0 where
   pub count-zero : v .count ≡ 0
   pub outputs-zero : (j : ℕ) → j < mostOutputs → codeAt v j ≡ 0
 
--- 1 to 32 states; start and final states are among them; 0 to 256 transitions; places beyond the counts hold 0
+-- 1 to mostStates states; start and final states are among them; at most mostTransitions transitions; places beyond the counts hold 0
 pub record Valid (t : Transducer) : Type 0 where
   pub some-state : 1 ≤ t .states
   pub few-states : t .states ≤ mostStates
@@ -53,7 +53,7 @@ unfoldable pub allBelow : ℕ → (ℕ → Bool) → Bool
 allBelow zero f = true
 allBelow (suc n) f = allBelow n f && f n
 
--- place j of an output: below the count a code of 1 to 250, from there on 0
+-- place j of an output: below the count a code, from there on 0
 unfoldable pub codeOf : Transition → ℕ → Bool
 codeOf v j = cond (ltb j (v .count)) (leb 1 (codeAt v j) && leb (codeAt v j) mostCode) (eqb (codeAt v j) 0)
 

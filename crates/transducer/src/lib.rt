@@ -10,10 +10,10 @@ pub mod limits;
 pub mod refusals;
 pub mod validity;
 
-// A code of the input alphabet, 1 to 250; in a transition 0 means that it reads nothing.
+// A code of the input alphabet, 1 to limits::CODE; in a transition 0 means that it reads nothing.
 pub struct InputCode(pub u8);
 
-// A code of the output alphabet, 1 to 250.
+// A code of the output alphabet, 1 to limits::CODE.
 pub struct OutputCode(pub u8);
 
 // A transition (document 01: a line): it leaves the state `from`, enters `to`, reads `input` and writes the first `count` codes of `output`.
@@ -49,7 +49,7 @@ impl StateSet {
         }
     }
 
-    // Whether the state s is in the set. A state over 31 is in no set.
+    // Whether the state s is in the set. A number from limits::STATES on is in no set.
     pub fn contains(self, s: u8) -> bool
         ensures { λ r. ⌜ r ≡ has self s ⌝ }
     {
@@ -61,7 +61,7 @@ impl StateSet {
         }
     }
 
-    // The set with the state s added. Adding a state over 31 gives the same set.
+    // The set with the state s added. Adding a number from limits::STATES on gives the same set.
     pub fn with(mut self, s: u8) -> StateSet
         ensures { λ r. ⌜ r ≡ withState self s ⌝ }
     {

@@ -93,7 +93,7 @@ fn codes_ok(v: Transition) -> bool
     ok
 }
 
-// Whether place j of v's output is as it should be: below the count a code of 1 to 250, from there on 0.
+// Whether place j of v's output is as it should be: below the count a code, from there on 0.
 fn code_ok(v: Transition, j: usize) -> bool
     requires { ⌜ j < mostOutputs ⌝ }
     ensures { λ r. ⌜ r ≡ codeOf v j ⌝ }
