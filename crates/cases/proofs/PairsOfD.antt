@@ -6,7 +6,6 @@ use Prim.Native.Nat.{ℕ, zero, suc, _+_, _<_}
 use native.Mathlib.Omega.{arith}
 use lib.ListN.{length, length-append}
 use Rattle.transducer.specs.StateSet.{has, withState}
-use Rattle.transducer.specs.Accepted.{acceptedOf}
 use Rattle.transducer.specs.Transition.{at, readBy}
 use Rattle.transducer.specs.Lines.{transducerOf}
 use Rattle.transducer.specs.Paths.{Path, here, step, reads}
@@ -97,9 +96,9 @@ module _ (last : List ℕ) where
       (omega (arith, rw (start-0 last (h .first) (h .starts)) at (d .0)), d .1)
 
   -- u is 6
-  pub useful-D : acceptedOf (tableD last) ≡ true → UsefulCount (tableD last) 6
+  pub useful-D : UsefulCount (tableD last) 6
   unfolding flagsOf countTrue
-  useful-D valid =
+  useful-D =
       useful-count each-useful
       (λ p q u.
       let one = from-start (u .one) in
