@@ -17,9 +17,10 @@ use Rattle.delays.specs.Outputs.{countAt, Appends}
 use Rattle.delays.specs.WaysOut.{level, Led, wordOut}
 use Rattle.delays.specs.Needs.{mostWord, WayHeld}
 use Rattle.delays.proofs.WayOutLaws.{Onward, onward, gap-ends, word-short}
-use Rattle.delays.proofs.NeedLaws.{appends-held, held-needs, held-next, lack-low, none-needed}
+use Rattle.delays.proofs.NeedLaws.{held-needs, held-next, lack-low, none-needed}
+use Rattle.delays.proofs.BufferLaws.{appends-held}
 use Rattle.equations.specs.Loops.{Measured, NeedsHeld, PairPasses, Flagged}
-use Rattle.equations.proofs.TriedLaws.{flagged-one}
+use Rattle.equations.proofs.PairLaws.{flagged-one}
 
 -- nothing is needed at a level pair
 pub level-needs : {m written out out-step gap left right : List ℕ} {v : ℕ} → Measured m written out out-step gap → v < mostPairs → getD gap v 0 ≢ 0

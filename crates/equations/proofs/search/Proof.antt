@@ -3,9 +3,9 @@ use mathlib.Core.Path.{refl}
 use mathlib.Core.Bool.{false}
 use borrow.Author.Needs.{needs}
 use Rattle.product.specs.Numbers.{mostPairs}
-use Rattle.pairs.proofs.UsefulLaws.{filled}
+use Rattle.pairs.proofs.FreshLists.{filled}
 use Rattle.equations.proofs.TestLaws.{valid}
-use Rattle.equations.proofs.TriedLaws.{flagged-none}
+use Rattle.equations.proofs.PairLaws.{flagged-none}
 use Rattle.equations.proofs.SearchLaws.{lists-of, order-led, meant, measured, places, tested}
 use Rattle.equations.proofs.search.Statement.{statement}
 use Rattle.equations.proofs.search.Tie as tie

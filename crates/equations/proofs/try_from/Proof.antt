@@ -1,7 +1,7 @@
 -- `try_from` meets its contract. Assumes nothing.
 use native.Mathlib.Omega.{arith}
 use borrow.Author.Needs.{needs}
-use Rattle.equations.proofs.TriedLaws.{passes, alone}
+use Rattle.equations.proofs.PairLaws.{passes, alone}
 use Rattle.equations.proofs.AlongLaws.{level-needs}
 use Rattle.equations.proofs.try_from.Statement.{statement}
 use Rattle.equations.proofs.try_from.Tie as tie

@@ -1,7 +1,8 @@
 -- `try_pair` meets its contract. Assumes nothing.
 use mathlib.Core.Path.{_∙_}
 use borrow.Author.Needs.{needs}
-use Rattle.equations.proofs.TriedLaws.{testing-starts, pair-uneven, pair-steps}
+use Rattle.equations.proofs.TriedLaws.{testing-starts}
+use Rattle.equations.proofs.PairLaws.{pair-uneven, pair-steps}
 use Rattle.equations.proofs.try_pair.Statement.{statement}
 use Rattle.equations.proofs.try_pair.Tie as tie
 

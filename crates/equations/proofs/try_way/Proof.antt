@@ -13,7 +13,7 @@ use Rattle.delays.specs.Outputs.{countAt}
 use Rattle.worklist.specs.Links.{wayFrom}
 use Rattle.delays.specs.Needs.{mostWord}
 use Rattle.delays.proofs.WayOutLaws.{Onward}
-use Rattle.equations.proofs.TriedLaws.{broken, passes}
+use Rattle.equations.proofs.PairLaws.{broken, passes}
 use Rattle.equations.proofs.AlongLaws.{Along, along-none, along-ahead, along-low, along-needs, along-next, along-more, along-done, not-level, level-or-flag}
 use Rattle.equations.proofs.try_way.Statement.{statement}
 use Rattle.equations.proofs.try_way.Tie as tie

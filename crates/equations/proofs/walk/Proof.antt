@@ -4,7 +4,7 @@ use mathlib.Core.Path.{refl, _∙_}
 use native.Mathlib.Omega.{arith}
 use borrow.Author.Needs.{needs}
 use Rattle.product.specs.Numbers.{mostPairs}
-use Rattle.pairs.proofs.UsefulLaws.{filled}
+use Rattle.pairs.proofs.FreshLists.{filled}
 use Rattle.equations.proofs.PlaceLaws.{way-stands}
 use Rattle.equations.proofs.TestLaws.{valid, links-out, led-out, ways-of, way-fails, round-candidate, round-fails, through-fails}
 use Rattle.equations.proofs.walk.Statement.{statement}

@@ -3,7 +3,7 @@ use mathlib.Core.Path.{refl}
 use borrow.Author.Needs.{needs}
 use Rattle.transducer.proofs.AcceptedLaws.{accepted-valid}
 use Rattle.product.specs.Numbers.{mostPairs}
-use Rattle.pairs.proofs.UsefulLaws.{filled}
+use Rattle.pairs.proofs.FreshLists.{filled}
 use Rattle.functionality.proofs.VerdictLaws.{refusal-none, counted, decides-single}
 use Rattle.functionality.proofs.examine.Statement.{statement}
 use Rattle.functionality.proofs.examine.Tie as tie

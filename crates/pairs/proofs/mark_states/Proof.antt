@@ -5,7 +5,7 @@ use Prim.Native.Nat.{_-_, _≤_}
 use borrow.Author.Needs.{needs}
 use Rattle.product.specs.Numbers.{mostPairs}
 use Rattle.pairs.specs.Ways.{bothBelow, Marked}
-use Rattle.pairs.proofs.PairSetLaws.{marked-more}
+use Rattle.pairs.proofs.MarkLaws.{marked-more}
 use Rattle.pairs.proofs.mark_states.Statement.{statement}
 use Rattle.pairs.proofs.mark_states.Tie as tie
 

@@ -3,7 +3,7 @@ use mathlib.Core.Path.{sym}
 use Prim.Native.Nat.{_+_, _-_, _≤_}
 use native.Mathlib.Omega.{arith}
 use lib.ListN.{getD}
-use Rattle.delays.proofs.OutputLaws.{Putting, putting-none, putting-more, putting-done, firsts-part}
+use Rattle.delays.proofs.PutLaws.{Putting, putting-none, putting-more, putting-done, firsts-part}
 use Rattle.delays.proofs.equation.copy.Statement.{statement}
 use Rattle.delays.proofs.equation.copy.Tie as tie
 

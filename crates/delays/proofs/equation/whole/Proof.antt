@@ -8,7 +8,7 @@ use Rattle.transducer.specs.Limits.{mostOutputs}
 use Rattle.worklist.specs.Links.{wayFrom}
 use Rattle.witness.proofs.SideLaws.{taken-small}
 use Rattle.delays.proofs.WayOutLaws.{Onward, onward-to}
-use Rattle.delays.proofs.NeedLaws.{Pending, pending-none, pending-room, pending-more, pending-whole}
+use Rattle.delays.proofs.PendingLaws.{Pending, pending-none, pending-room, pending-more, pending-whole}
 use Rattle.delays.proofs.equation.whole.Statement.{statement}
 use Rattle.delays.proofs.equation.whole.Tie as tie
 
