@@ -1,2 +1,2 @@
--- How lists are filled.
-mod Filling
+-- How flags are cast.
+mod Flags

@@ -1,7 +1,7 @@
 -- Parts put into a buffer one after the other, by a loop or by calls in a row: the part of turn i is put behind those of the turns below i.
 -- Assumes nothing.
 use mathlib.Core.Path.{_≡_, refl, sym, ap, _∙_}
-use mathlib.Core.List.{List, [], _∷_, _++_, flatMap, append-assoc, append-nil}
+use mathlib.Core.List.{List, [], _∷_, _++_, map, flatMap, append-assoc, append-nil}
 use mathlib.Core.Logic.{⊎-elim}
 use Prim.Native.Nat.{ℕ, zero, suc, _+_, _≤_, _<_}
 use native.Mathlib.Nat.{eq-or-lt-of-le, le-of-suc-le-suc}
@@ -9,12 +9,16 @@ use native.Mathlib.Numerals.{add-one}
 use native.Mathlib.Omega.{arith}
 use lib.ListN.{length, getD, length-append}
 use Rattle.buffers.specs.Put.{Room, Puts}
-use Rattle.buffers.proofs.PutsLaws.{puts-none, puts-length, room-front, room-behind, puts-behind}
+use Rattle.buffers.proofs.PutsLaws.{puts-none, puts-length, room-behind, puts-behind}
 
 -- the parts below n, one after the other
 unfoldable pub below : (ℕ → List ℕ) → ℕ → List ℕ
 below part zero = []
 below part (suc n) = below part n ++ part n
+
+-- parts in a row
+abbrev pub inRow : List (List ℕ) → ℕ → List ℕ
+inRow parts i = getD parts i []
 
 -- the bytes are the parts below n; those below i are put from `start`, and `at` is the place behind them
 pub record Parts (bytes : List ℕ) (part : ℕ → List ℕ) (n : ℕ) (before : List ℕ) (start i : ℕ) (out : List ℕ) (at : ℕ) : Type 0 where
@@ -23,15 +27,15 @@ pub record Parts (bytes : List ℕ) (part : ℕ → List ℕ) (n : ℕ) (before 
   pub within : i ≤ n
   pub puts : Puts before start (below part i) out at
 
--- what is put with the part of turn i is not longer than what is put below a later turn
-below-length : (part : ℕ → List ℕ) (n i : ℕ) → i < n → length (below part i ++ part i) ≤ length (below part n)
+-- what is put below i is not longer than what is put below a later turn
+below-length : (part : ℕ → List ℕ) (n i : ℕ) → i ≤ n → length (below part i) ≤ length (below part n)
 unfolding below
-below-length part zero i h = absurd (omega arith)
+below-length part zero i h = let e : i ≡ 0 = omega arith in rw e (omega arith)
 below-length part (suc n) i h =
     ⊎-elim
-    (λ (e : i ≡ n). rw e (omega arith))
-    (λ (l : i < n). omega (arith, below-length part n i l, length-append (below part n) (part n)))
-    (eq-or-lt-of-le (le-of-suc-le-suc h))
+    (λ (e : i ≡ suc n). rw e (omega arith))
+    (λ (l : i < suc n). omega (arith, below-length part n i (le-of-suc-le-suc l), length-append (below part n) (part n)))
+    (eq-or-lt-of-le h)
 
 module _ {bytes : List ℕ} {part : ℕ → List ℕ} {n : ℕ} {before : List ℕ} {start : ℕ} where
   -- before the first part
@@ -40,12 +44,17 @@ module _ {bytes : List ℕ} {part : ℕ → List ℕ} {n : ℕ} {before : List �
   parts-none e r = record { whole = e; room = r; within = omega arith; puts = puts-none }
 
   module _ {i : ℕ} {out : List ℕ} {at : ℕ} (p : Parts bytes part n before start i out at) where
-    fits : i < n → Room before start (below part i ++ part i)
-    fits h = record { room = omega (arith, below-length part n i h, ap length (p .whole), p .room .room) }
+    fits : (k : ℕ) → k ≤ n → Room before start (below part k)
+    fits k h = record { room = omega (arith, below-length part n k h, ap length (p .whole), p .room .room) }
+
+    -- the buffer keeps its length
+    pub parts-length : length out ≡ length before
+    parts-length = puts-length (fits i (p .within)) (p .puts)
 
     -- there is room for the next part
     pub part-room : i < n → Room out at (part i)
-    part-room h = room-behind (part i) (fits h) (p .puts)
+    unfolding below
+    part-room h = room-behind (part i) (fits (suc i) h) (p .puts)
 
     -- after the next part
     pub part-next : i < n → {after : List ℕ} {next : ℕ} → Puts out at (part i) after next
@@ -56,7 +65,7 @@ module _ {bytes : List ℕ} {part : ℕ → List ℕ} {n : ℕ} {before : List �
           whole = p .whole;
           room = p .room;
           within = omega arith;
-          puts = rw add-one (puts-behind (room-front (below part i) (part i) (fits h)) (p .puts) q);
+          puts = rw add-one (puts-behind (fits i (p .within)) (p .puts) q);
         }
 
     -- after the last part
@@ -77,8 +86,8 @@ unfolding below flatMap
 below-items f d [] = refl
 below-items f d (a ∷ items) = ap (λ l. f a ++ l) (below-items f d items) ∙ sym (below-first (λ i. f (getD (a ∷ items) i d)) (length items))
 
--- each number by itself
-pub below-numbers : (numbers : List ℕ) → numbers ≡ below (λ i. getD numbers i 0 ∷ []) (length numbers)
+-- a number for each item
+pub below-each : {A : Type 0} (f : A → ℕ) (d : A) (items : List A) → map f items ≡ below (λ i. f (getD items i d) ∷ []) (length items)
 unfolding below
-below-numbers [] = refl
-below-numbers (a ∷ numbers) = ap (λ l. a ∷ l) (below-numbers numbers) ∙ sym (below-first (λ i. getD (a ∷ numbers) i 0 ∷ []) (length numbers))
+below-each f d [] = refl
+below-each f d (a ∷ items) = ap (λ l. f a ∷ l) (below-each f d items) ∙ sym (below-first (λ i. f (getD (a ∷ items) i d) ∷ []) (length items))

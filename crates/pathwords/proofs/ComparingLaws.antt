@@ -1,7 +1,7 @@
 -- Laws of comparing a path's output word with a list, where it stands. Assumes nothing.
 use mathlib.Core.Path.{_≡_, sym, ap, _∙_}
 use mathlib.Core.Bool.{true}
-use mathlib.Core.List.{List, [], _∷_, _++_, append-cancel-left}
+use mathlib.Core.List.{List, [], _∷_, _++_, flatMap, append-cancel-left}
 use mathlib.Core.Logic.{_≢_, _↔_, Iff·rfl, Iff·trans, ⊎-elim}
 use Prim.Native.Nat.{ℕ, zero, suc, _+_, _≤_, _<_}
 use native.Mathlib.Nat.{eq-or-lt-of-le}
@@ -14,7 +14,7 @@ use lib.Seq.{take-suc, take-append-seam, drop-drop, drop-length, getD-at, getD-t
 use Rattle.transducer.specs.Transition.{firsts}
 use Rattle.transducer.proofs.SizeLaws.{length-firsts}
 use Rattle.pathwords.specs.Words.{Stands}
-use Rattle.pathwords.proofs.WritingLaws.{joined, joined-next}
+use Rattle.pathwords.proofs.WritingLaws.{path-next}
 
 -- the value at a place of the first values
 pub getD-firsts : {A : Type 0} (n : ℕ) (f : ℕ → A) (d : A) (j : ℕ) → j < n → getD (firsts n f) j d ≡ f j
@@ -69,7 +69,7 @@ module _ (out : List ℕ) (i : ℕ) where
 pub record Comparing (f : ℕ → List ℕ) (path word : List ℕ) (to i : ℕ) : Type 0 where
   pub within : i ≤ length path
   pub inside : to ≤ length word
-  pub exact : (joined f (drop i path) ≡ drop to word) ↔ (joined f path ≡ word)
+  pub exact : (flatMap f (drop i path) ≡ drop to word) ↔ (flatMap f path ≡ word)
 
 module _ {f : ℕ → List ℕ} {path word : List ℕ} where
   pub comparing-starts : Comparing f path word 0 0
@@ -77,9 +77,10 @@ module _ {f : ℕ → List ℕ} {path word : List ℕ} where
 
   module _ {to i : ℕ} (w : Comparing f path word to i) where
     -- the path is used up: it is the same where the word is
-    pub comparing-ends : length path ≤ i → (eqb to (length word) ≡ true) ↔ (joined f path ≡ word)
+    pub comparing-ends : length path ≤ i → (eqb to (length word) ≡ true) ↔ (flatMap f path ≡ word)
+    unfolding flatMap
     comparing-ends h =
-        let e : ([] ≡ drop to word) ↔ (joined f path ≡ word) = rw (drop-of-length-le path h) at (w .exact) in (
+        let e : ([] ≡ drop to word) ↔ (flatMap f path ≡ word) = rw (drop-of-length-le path h) at (w .exact) in (
           λ b. e .0 (sym (rw (eqb-true to (length word) b) (drop-length word))),
           λ s. eq-eqb to (length word) (omega (arith, w .inside, ap length (e .1 s), length-drop to word)),
         )
@@ -88,8 +89,8 @@ module _ {f : ℕ → List ℕ} {path word : List ℕ} where
       abbrev next : List ℕ
       next = f (getD path i 0)
 
-      rest : joined f (drop i path) ≡ next ++ joined f (drop (i + 1) path)
-      rest = joined-next f path i h
+      rest : flatMap f (drop i path) ≡ next ++ flatMap f (drop (i + 1) path)
+      rest = path-next f path i h
 
       -- the next transition's numbers stand there
       pub comparing-turns : {to′ : ℕ} → to′ ≡ to + length next → Stands word to next → Comparing f path word to′ (i + 1)
@@ -97,9 +98,9 @@ module _ {f : ℕ → List ℕ} {path word : List ℕ} where
           record {
             within = omega arith;
             inside = omega (arith, stands-room word to next (w .inside) s);
-            exact = rw e (Iff·trans (stands-splits word to next (joined f (drop (i + 1) path)) s) (rw (← rest) (w .exact)));
+            exact = rw e (Iff·trans (stands-splits word to next (flatMap f (drop (i + 1) path)) s) (rw (← rest) (w .exact)));
           }
 
       -- they do not
-      pub comparing-differs : (Stands word to next → ⊥) → joined f path ≡ word → ⊥
-      comparing-differs n s = n (begins-stands word to next (joined f (drop (i + 1) path)) (sym rest ∙ w .exact .1 s))
+      pub comparing-differs : (Stands word to next → ⊥) → flatMap f path ≡ word → ⊥
+      comparing-differs n s = n (begins-stands word to next (flatMap f (drop (i + 1) path)) (sym rest ∙ w .exact .1 s))

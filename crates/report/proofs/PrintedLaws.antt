@@ -13,7 +13,7 @@ use Rattle.transducer.specs.Transition.{bytesOf}
 use Rattle.transducer.specs.Paths.{Functional}
 use Rattle.buffers.specs.Put.{Puts}
 use Rattle.transducer.proofs.SizeLaws.{length-bytes}
-use Rattle.pathwords.proofs.WordLaws.{front-put}
+use Rattle.buffers.proofs.PutLaws.{front-put}
 use Rattle.translator.specs.Words as words
 use Rattle.translator.specs.Translated.{Outcome, Translated}
 use Rattle.translator.specs.declared.Translation.{Translation}
@@ -69,7 +69,7 @@ verdict-printed h = judged-printed (h .judged)
 
 -- ---- the translation
 
--- the buffer has 65,528 places
+-- the buffer has as many places as any output has codes
 lent-output : length lentOutput ≡ mostTranslated
 unfolding lentOutput
 lent-output = length-replicate {A = ℕ} mostTranslated 0

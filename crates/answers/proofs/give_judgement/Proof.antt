@@ -1,12 +1,9 @@
 -- `give_judgement` meets its contract. Assumes nothing.
 use borrow.Author.Needs.{needs}
 use Rattle.answers.specs.Answers.{numbersOf}
-use Rattle.answers.proofs.Filling.{flag-byte}
+use Rattle.answers.proofs.Flags.{flag-byte}
 use Rattle.answers.proofs.give_judgement.Statement.{statement}
 use Rattle.answers.proofs.give_judgement.Tie as tie
-
-abbrev start : tie.After-slice-known2 → tie.Start
-start c = c .before .before .before .before .before .before .before .before .before .before .before .before .before .before
 
 cast-t5 : tie.Need-cast-t5
 cast-t5 c = search needs
@@ -40,7 +37,7 @@ same-length c = search needs
 
 returns : tie.Need-returns
 unfolding numbersOf
-returns c = rw (flag-byte (start c .args .judgement .split)) (c .before .before .give .ensures)
+returns c = rw flag-byte (c .before .before .give .ensures)
 
 pub give-judgement-spec : {M : Type 1} → statement M
 give-judgement-spec =

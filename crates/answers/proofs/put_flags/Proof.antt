@@ -1,24 +1,28 @@
--- `put_flags` meets its contract. The invariant: i of the flags are put. The measure is how many are left. Assumes nothing.
-use mathlib.Core.Path.{_∙_}
+-- `put_flags` meets its contract. The loop's invariant: the flags below i are put. Assumes nothing.
+use mathlib.Core.Path.{refl}
 use mathlib.Core.Bool.{false}
-use mathlib.Core.List.{map}
+use mathlib.Core.List.{[], _∷_, map}
 use Prim.Native.Nat.{_-_}
 use native.Mathlib.Omega.{arith}
 use borrow.Author.Needs.{needs}
-use lib.ListN.{length, getD, length-map, List·getD-map}
+use lib.ListN.{length, getD, length-map}
+use Rattle.buffers.proofs.PutsLaws.{puts-one}
+use Rattle.buffers.proofs.Parts.{Parts, parts-none, parts-length, part-room, part-next, parts-all, below-each}
 use Rattle.answers.specs.Answers.{flagOf}
-use Rattle.answers.proofs.Filling.{Filled, filled-none, filled-next, filled-all, flag-byte}
+use Rattle.answers.proofs.Flags.{flag-byte}
 use Rattle.answers.proofs.put_flags.Statement.{statement}
 use Rattle.answers.proofs.put_flags.Tie as tie
 
 abbrev Inv-loop : tie.InvT-loop
-Inv-loop list₀ flags i₀ list i = Filled list₀ (map flagOf flags) list i
+Inv-loop list₀ flags i₀ list i = Parts (map flagOf flags) (λ i. flagOf (getD flags i false) ∷ []) (length flags) list₀ 0 i list i
 
 abbrev μ-loop : tie.MeasureT-loop
 μ-loop list₀ flags i₀ list i = length flags - i
 
 loop-holds : tie.Need-loop-holds Inv-loop μ-loop
-loop-holds c = filled-none (omega (arith, length-map (c .args .flags .now) flagOf, c .pre))
+loop-holds c =
+    let flags = c .args .flags .now in
+    parts-none (below-each flagOf false flags) (record { room = omega (arith, length-map flags flagOf, c .pre) })
 
 shared-slice-read-list : tie.Need-shared-slice-read-list Inv-loop μ-loop
 shared-slice-read-list c = omega arith
@@ -27,7 +31,7 @@ cast-list : tie.Need-cast-list Inv-loop μ-loop
 cast-list c = search needs
 
 slice-write-list : tie.Need-slice-write-list Inv-loop μ-loop
-slice-write-list c = omega arith
+slice-write-list c = omega (arith, part-room (c .before .before .loop .inv) (c .before .loop-test .taken) .room)
 
 add-i : tie.Need-add-i Inv-loop μ-loop
 add-i c = omega arith
@@ -37,16 +41,16 @@ loop-less c = omega arith
 
 loop-again : tie.Need-loop-again Inv-loop μ-loop
 loop-again c =
-    let at = c .before .before in
-    let flags = at .before .args .flags .now in
-    filled-next (at .loop .inv) _ (omega (arith, length-map flags flagOf, c .before .loop-test .taken))
-    (List·getD-map flagOf flags (at .loop .i) false ∙ flag-byte (getD flags (at .loop .i) false))
+    let at = c .before .before .loop in
+    let taken = c .before .loop-test .taken in
+    let room = part-room (at .inv) taken .room in
+    part-next (at .inv) taken (rw (flag-byte (getD (c .before .before .before .args .flags .now) (at .i) false)) (puts-one _ (omega arith) refl))
 
 same-length : tie.Need-same-length Inv-loop μ-loop
-same-length c = c .before .loop .inv .size
+same-length c = parts-length (c .before .loop .inv)
 
 returns : tie.Need-returns Inv-loop μ-loop
-returns c = filled-all (c .before .loop .inv) (omega (arith, length-map (c .before .before .args .flags .now) flagOf, c .loop-test .left))
+returns c = parts-all (c .before .loop .inv) (c .loop-test .left) .buffer
 
 pub put-flags-spec : {M : Type 1} → statement M
 put-flags-spec =

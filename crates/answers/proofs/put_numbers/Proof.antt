@@ -1,20 +1,24 @@
--- `put_numbers` meets its contract. The invariant: i of the numbers are put. The measure is how many are left. Assumes nothing.
-use mathlib.Core.Path.{refl}
+-- `put_numbers` meets its contract. The loop's invariant: the numbers below i are put. Assumes nothing.
+use mathlib.Core.Path.{refl, sym, _∙_}
+use mathlib.Core.List.{[], _∷_, map-id}
 use Prim.Native.Nat.{_-_}
 use native.Mathlib.Omega.{arith}
-use lib.ListN.{length}
-use Rattle.answers.proofs.Filling.{Filled, filled-none, filled-next, filled-all}
+use lib.ListN.{length, getD}
+use Rattle.buffers.proofs.PutsLaws.{puts-one}
+use Rattle.buffers.proofs.Parts.{Parts, parts-none, parts-length, part-room, part-next, parts-all, below-each}
 use Rattle.answers.proofs.put_numbers.Statement.{statement}
 use Rattle.answers.proofs.put_numbers.Tie as tie
 
 abbrev Inv-loop : tie.InvT-loop
-Inv-loop list₀ numbers i₀ list i = Filled list₀ numbers list i
+Inv-loop list₀ numbers i₀ list i = Parts numbers (λ i. getD numbers i 0 ∷ []) (length numbers) list₀ 0 i list i
 
 abbrev μ-loop : tie.MeasureT-loop
 μ-loop list₀ numbers i₀ list i = length numbers - i
 
 loop-holds : tie.Need-loop-holds Inv-loop μ-loop
-loop-holds c = filled-none (c .pre)
+loop-holds c =
+    let numbers = c .args .numbers .now in
+    parts-none (sym (map-id numbers) ∙ below-each (λ n. n) 0 numbers) (record { room = omega (arith, c .pre) })
 
 mul-list : tie.Need-mul-list Inv-loop μ-loop
 mul-list c = omega arith
@@ -26,7 +30,7 @@ mul-list-2 : tie.Need-mul-list-2 Inv-loop μ-loop
 mul-list-2 c = omega arith
 
 slice-write-list : tie.Need-slice-write-list Inv-loop μ-loop
-slice-write-list c = omega arith
+slice-write-list c = omega (arith, part-room (c .before .before .loop .inv) (c .before .loop-test .taken) .room)
 
 add-i : tie.Need-add-i Inv-loop μ-loop
 add-i c = omega arith
@@ -35,13 +39,16 @@ loop-less : tie.Need-loop-less Inv-loop μ-loop
 loop-less c = omega arith
 
 loop-again : tie.Need-loop-again Inv-loop μ-loop
-loop-again c = filled-next (c .before .before .loop .inv) _ (c .before .loop-test .taken) refl
+loop-again c =
+    let at = c .before .before .loop in
+    let taken = c .before .loop-test .taken in
+    part-next (at .inv) taken (puts-one _ (omega (arith, part-room (at .inv) taken .room)) refl)
 
 same-length : tie.Need-same-length Inv-loop μ-loop
-same-length c = c .before .loop .inv .size
+same-length c = parts-length (c .before .loop .inv)
 
 returns : tie.Need-returns Inv-loop μ-loop
-returns c = filled-all (c .before .loop .inv) (c .loop-test .left)
+returns c = parts-all (c .before .loop .inv) (c .loop-test .left) .buffer
 
 pub put-numbers-spec : {M : Type 1} → statement M
 put-numbers-spec =

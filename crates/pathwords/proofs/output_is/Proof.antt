@@ -10,7 +10,7 @@ use lib.ListN.{length, getD}
 use Rattle.transducer.specs.Transition.{at, writtenBy}
 use Rattle.transducer.proofs.SizeLaws.{length-written, length-bytes}
 use Rattle.pathwords.specs.Words.{Stands}
-use Rattle.pathwords.proofs.WritingLaws.{bytesAt, bytes-joined}
+use Rattle.pathwords.proofs.WritingLaws.{bytesAt, bytes-path}
 use Rattle.pathwords.proofs.ComparingLaws.{stands-room, Comparing, comparing-starts, comparing-turns, comparing-differs, comparing-ends}
 use Rattle.pathwords.proofs.output_is.Statement.{statement}
 use Rattle.pathwords.proofs.output_is.Tie as tie
@@ -71,7 +71,7 @@ returns c =
     let s = turn (c .before) in
     let a = start s .args in
     let unlike = comparing-differs (s .loop .inv) (omega arith) (λ h. false≢true (sym (not-true _ (c .if1 .taken)) ∙ c .before .stands .ensures .1 h)) in
-    (λ e. absurd (false≢true e), λ e. absurd (unlike (sym (bytes-joined (a .t1) (a .path .now)) ∙ e)))
+    (λ e. absurd (false≢true e), λ e. absurd (unlike (sym (bytes-path (a .t1) (a .path .now)) ∙ e)))
 
 cast-at : tie.Need-cast-at Inv-loop μ-loop
 cast-at c = search needs
@@ -98,7 +98,7 @@ returns-2 : tie.Need-returns-2 Inv-loop μ-loop
 returns-2 c =
     let s = c .before in
     let a = start s .args in
-    rw (bytes-joined (a .t1) (a .path .now)) (comparing-ends (s .loop .inv) (c .loop-test .left))
+    rw (bytes-path (a .t1) (a .path .now)) (comparing-ends (s .loop .inv) (c .loop-test .left))
 
 pub output-is-spec : {M : Type 1} → statement M
 output-is-spec =
