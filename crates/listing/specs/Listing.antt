@@ -1,33 +1,11 @@
--- What the programs print (document 01, "Writer and programs"): records like the file's, with fields six wide.
+-- What the programs print (document 01, "Writer and programs"): records like the file's, with wider fields.
 use mathlib.Core.Bool.{Bool, cond}
-use mathlib.Core.List.{List, [], _∷_, _++_, flatMap}
+use mathlib.Core.List.{List, [], _∷_, _++_}
 use Prim.Native.Nat.{ℕ, _+_, _*_, _≤_}
 use lib.ListN.{length}
-use Rattle.records.specs.Number.{columnsOf}
+use Rattle.records.specs.Record.{listingColumns, recordBytes, countedBytes}
 use Rattle.wordsearch.specs.Limits as words
 use Rattle.witness.specs.Sides as walks
-
--- ---- a record
-
--- how many columns a field has
-abbrev pub fieldWidth : ℕ
-fieldWidth = 6
-
--- the numbers that a field holds are below it
-abbrev pub fieldLimit : ℕ
-fieldLimit = 1000000
-
--- the byte that ends a record
-abbrev pub recordEnd : ℕ
-recordEnd = 10
-
--- a record: its letter, its number fields and the byte that ends it
-unfoldable pub recordOf : ℕ → List ℕ → List ℕ
-recordOf letter numbers = letter ∷ flatMap (columnsOf fieldWidth) numbers ++ (recordEnd ∷ [])
-
--- a record with a count and then the items
-unfoldable pub countedOf : ℕ → List ℕ → List ℕ
-countedOf letter items = recordOf letter (length items ∷ items)
 
 -- the letter of the verdict, `V`
 abbrev pub letterV : ℕ
@@ -65,27 +43,29 @@ verdictNumber split = cond split 1 0
 
 -- the records of a witness: the input word, path A, path B, the outputs of A and B, each a count and then the items
 unfoldable pub witnessListing : (w a b x y : List ℕ) → List ℕ
-witnessListing w a b x y = countedOf letterW w ++ countedOf letterA a ++ countedOf letterB b ++ countedOf letterX x ++ countedOf letterY y
+witnessListing w a b x y =
+    countedBytes listingColumns letterW w ++ countedBytes listingColumns letterA a ++ countedBytes listingColumns letterB b
+    ++ countedBytes listingColumns letterX x ++ countedBytes listingColumns letterY y
 
 -- what the verdict program prints: `V` verdict and u; for split also the witness
 unfoldable pub verdictListing : Bool → ℕ → (w a b x y : List ℕ) → List ℕ
-verdictListing split u w a b x y = recordOf letterV (verdictNumber split ∷ u ∷ []) ++ cond split (witnessListing w a b x y) []
+verdictListing split u w a b x y = recordBytes listingColumns letterV (verdictNumber split ∷ u ∷ []) ++ cond split (witnessListing w a b x y) []
 
 -- what either program prints of a refusal: `R`, the number, the record number
 unfoldable pub refusalListing : ℕ → ℕ → List ℕ
-refusalListing number record-number = recordOf letterR (number ∷ record-number ∷ [])
+refusalListing number record-number = recordBytes listingColumns letterR (number ∷ record-number ∷ [])
 
 -- what the translating program prints of an output: one `X` record, a count and then the items
 unfoldable pub translationListing : List ℕ → List ℕ
-translationListing items = countedOf letterX items
+translationListing items = countedBytes listingColumns letterX items
 
--- ---- how long they can be: 6 bytes for each number and 2 for each record
+-- ---- how long they can be: a record has a letter, an end and the columns of its numbers
 
--- the bytes of a record of two numbers
+-- a record of two numbers
 abbrev pub pairBytes : ℕ
-pairBytes = 2 + fieldWidth * 2
+pairBytes = 2 + 2 * listingColumns
 
--- the most items of a shown input word and of a path: 2,047
+-- the most items of a shown input word and of a path
 abbrev pub mostSteps : ℕ
 mostSteps = walks.mostSteps
 
@@ -93,17 +73,17 @@ mostSteps = walks.mostSteps
 abbrev pub mostShown : ℕ
 mostShown = walks.mostShown
 
--- the longest listing of a verdict: `V`, and five records with their counts and items, 233,412 bytes
+-- the longest listing of a verdict: `V`, and five records with their counts and items
 abbrev pub mostVerdictBytes : ℕ
-mostVerdictBytes = pairBytes + 5 * (2 + fieldWidth) + fieldWidth * (3 * mostSteps + 2 * mostShown)
+mostVerdictBytes = pairBytes + 5 * (2 + listingColumns) + listingColumns * (3 * mostSteps + 2 * mostShown)
 
--- the most items of a translation: 65,528
+-- the most items of a translation
 abbrev pub mostTranslated : ℕ
 mostTranslated = words.mostWritten
 
--- the longest listing of a translation: 393,176 bytes
+-- the longest listing of a translation
 abbrev pub mostTranslationBytes : ℕ
-mostTranslationBytes = 2 + fieldWidth + fieldWidth * mostTranslated
+mostTranslationBytes = 2 + listingColumns + listingColumns * mostTranslated
 
 -- the items of a verdict are no more than document 01 has, and the buffer has room for the longest listing
 pub record VerdictRoom (w a b x y out : List ℕ) : Type 0 where

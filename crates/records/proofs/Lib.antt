@@ -4,3 +4,4 @@ pub mod RoundTrip
 pub mod Parts
 pub mod Walk
 pub mod Record
+pub mod RecordBytes

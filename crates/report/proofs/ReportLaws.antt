@@ -160,7 +160,7 @@ module _ {f out₀ out : List ℕ} {b : Buffers} {r : Judgement} {n : ℕ} (h : 
 
 -- ---- a translation
 
--- an output has at most 65,528 codes; with a refusal there is none
+-- an output has at most `mostWritten` codes; with a refusal there is none
 output-short : {t : Transducer} {input out₀ out : List ℕ} {r : Translation} → Translated t input out₀ out r → lengthOf r ≤ limits.mostWritten
 output-short {t} {input} {out₀} {out} {r} h = go (ℕ-discrete (refusalOf t input) 0)
   where

@@ -13,11 +13,11 @@ use Rattle.engine.specs.declared.Judgement.{Judgement}
 use Rattle.engine.specs.declared.FileTranslation.{FileTranslation}
 use Rattle.listing.specs.Listing.{verdictListing, refusalListing, translationListing, mostSteps, mostShown, mostTranslated}
 
--- how many bytes of a table file are read, 13,203: one more than the longest has
+-- how many bytes of a table file are read: one more than the longest has
 abbrev pub readBytes : ℕ
 readBytes = mostBytes + 1
 
--- how many codes of an input word are read, 256: one more than the longest has
+-- how many codes of an input word are read: one more than the longest has
 abbrev pub readCodes : ℕ
 readCodes = mostWord + 1
 
@@ -53,7 +53,7 @@ pub record VerdictReport (f out₀ out : List ℕ) (n : ℕ) : Type 0 where
 unfoldable pub answerListing : FileTranslation → List ℕ → List ℕ
 answerListing q output = cond (eqb (q .number) 0) (translationListing (take (q .length) output)) (refusalListing (q .number) (q .«record»))
 
--- the buffer that is lent for a translation, 65,528 zeros
+-- the buffer that is lent for a translation, all zeros
 unfoldable pub lentOutput : List ℕ
 lentOutput = replicate mostTranslated 0
 

@@ -12,9 +12,9 @@ use witness::CODES;
 use witness::STEPS;
 use wordsearch::limits;
 
-// How many bytes of a table file are read, 13,203: one more than the longest has, so that a longer file is still too long.
+// How many bytes of a table file are read: one more than the longest has, so that a longer file is still too long.
 pub const READ_BYTES: usize = MOST_BYTES + 1;
-// How many codes of an input word are read, 256: one more than the longest has.
+// How many codes of an input word are read: one more than the longest has.
 pub const READ_CODES: usize = limits::WORD + 1;
 
 // Judges a table file, the first `got` bytes of `text`, and puts the listing of the verdict, or of the refusal, at the front of `out`. Returns its

@@ -11,12 +11,13 @@ use Rattle.tablereader.specs.Header.{headerOf}
 use Rattle.tablereader.specs.Record.{headerSize, firstOf, numberAt}
 use Rattle.tablereader.specs.declared.header.Header.{Header}
 use Rattle.tablereader.proofs.HeaderRecord.{Counted}
-use Rattle.tablewriter.specs.File.{recordBytes}
+use Rattle.records.specs.Field.{columns}
+use Rattle.records.specs.Record.{recordBytes}
 use Rattle.tablefile.proofs.Pieces.{opened, closed, number-there, opened-back, closed-back, number-back, first-passes}
 
 -- the bytes of the record with the counts of h
 abbrev pub bytesOf : Header → List ℕ
-bytesOf h = recordBytes letterT (h .states ∷ h .starts ∷ h .finals ∷ h .transitions ∷ [])
+bytesOf h = recordBytes columns letterT (h .states ∷ h .starts ∷ h .finals ∷ h .transitions ∷ [])
 
 module _ (text : List ℕ) where
   -- the record gives the counts of h, and the rest follows

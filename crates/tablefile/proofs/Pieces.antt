@@ -22,7 +22,7 @@ use Rattle.records.proofs.RoundTrip.{field-there, field-unique}
 use Rattle.transducer.specs.Refusals.{outOfRange}
 use Rattle.tablereader.specs.Record.{firstOf, inRange, numberAt}
 use Rattle.tablereader.specs.declared.record.Number.{Number}
-use Rattle.tablewriter.specs.File.{fieldsOf, recordBytes}
+use Rattle.records.specs.Record.{fieldsOf, recordBytes}
 
 -- of a list of checks that passes, the first passes, and so do the others
 pub first-passes : (fault : ℕ) (faults : List ℕ) → firstOf (fault ∷ faults) ≡ 0 → (fault ≡ 0) × (firstOf faults ≡ 0)
@@ -66,14 +66,14 @@ module _ (text : List ℕ) where
       }
 
   -- the letter of a record
-  pub opened : (at letter next : ℕ) (numbers rest : List ℕ) → next ≡ at + 1 → drop at text ≡ recordBytes letter numbers ++ rest
-      → BytePasses at letter next (fieldsOf numbers ++ recordEnd ∷ rest)
+  pub opened : (at letter next : ℕ) (numbers rest : List ℕ) → next ≡ at + 1 → drop at text ≡ recordBytes columns letter numbers ++ rest
+      → BytePasses at letter next (fieldsOf columns numbers ++ recordEnd ∷ rest)
   unfolding recordBytes
   opened at letter next numbers rest n e =
-      byte-there at letter next (fieldsOf numbers ++ recordEnd ∷ rest) n (e ∙ ap (_∷_ letter) (append-assoc (fieldsOf numbers) (recordEnd ∷ []) rest))
+      byte-there at letter next (fieldsOf columns numbers ++ recordEnd ∷ rest) n (e ∙ ap (_∷_ letter) (append-assoc (fieldsOf columns numbers) (recordEnd ∷ []) rest))
 
   -- the end of a record
-  pub closed : (at next : ℕ) (rest : List ℕ) → next ≡ at + 1 → drop at text ≡ fieldsOf [] ++ recordEnd ∷ rest → BytePasses at recordEnd next rest
+  pub closed : (at next : ℕ) (rest : List ℕ) → next ≡ at + 1 → drop at text ≡ fieldsOf columns [] ++ recordEnd ∷ rest → BytePasses at recordEnd next rest
   unfolding fieldsOf flatMap
   closed at next rest n e = byte-there at recordEnd next rest n e
 
@@ -83,13 +83,13 @@ module _ (text : List ℕ) where
     pub follows : drop next text ≡ rest
 
   pub number-there : (at low high v next : ℕ) (vs rest : List ℕ) → next ≡ at + 4 → low ≤ v → v ≤ high → high ≤ 9999
-      → drop at text ≡ fieldsOf (v ∷ vs) ++ rest → NumberPasses at low high v next (fieldsOf vs ++ rest)
+      → drop at text ≡ fieldsOf columns (v ∷ vs) ++ rest → NumberPasses at low high v next (fieldsOf columns vs ++ rest)
   unfolding numberAt fieldsOf flatMap
   number-there at low high v next vs rest n h k m e =
-      let there = e ∙ append-assoc (columnsOf columns v) (fieldsOf vs) rest in
+      let there = e ∙ append-assoc (columnsOf columns v) (fieldsOf columns vs) rest in
       record {
-        passes = simp (field-there text (fieldsOf vs ++ rest) at v there (omega arith), le-leb low v h, le-leb v high k);
-        follows = rw n (drop-past at 4 (columnsOf columns v) (fieldsOf vs ++ rest) there (length-columns columns v));
+        passes = simp (field-there text (fieldsOf columns vs ++ rest) at v there (omega arith), le-leb low v h, le-leb v high k);
+        follows = rw n (drop-past at 4 (columnsOf columns v) (fieldsOf columns vs ++ rest) there (length-columns columns v));
       }
 
   -- ---- what passes is what is written
@@ -104,20 +104,20 @@ module _ (text : List ℕ) where
       go false y p q z = absurd (omega arith)
 
   pub opened-back : (at letter next : ℕ) (numbers rest : List ℕ) → next ≡ at + 1 → byteFault text at letter ≡ 0
-      → drop next text ≡ fieldsOf numbers ++ recordEnd ∷ rest → drop at text ≡ recordBytes letter numbers ++ rest
+      → drop next text ≡ fieldsOf columns numbers ++ recordEnd ∷ rest → drop at text ≡ recordBytes columns letter numbers ++ rest
   unfolding recordBytes
   opened-back at letter next numbers rest n e f =
-      byte-back at letter next n e ∙ ap (_∷_ letter) (f ∙ sym (append-assoc (fieldsOf numbers) (recordEnd ∷ []) rest))
+      byte-back at letter next n e ∙ ap (_∷_ letter) (f ∙ sym (append-assoc (fieldsOf columns numbers) (recordEnd ∷ []) rest))
 
-  pub closed-back : (at next : ℕ) → next ≡ at + 1 → byteFault text at recordEnd ≡ 0 → drop at text ≡ fieldsOf [] ++ recordEnd ∷ drop next text
+  pub closed-back : (at next : ℕ) → next ≡ at + 1 → byteFault text at recordEnd ≡ 0 → drop at text ≡ fieldsOf columns [] ++ recordEnd ∷ drop next text
   unfolding fieldsOf flatMap
   closed-back at next n e = byte-back at recordEnd next n e
 
   pub number-back : (at low high next : ℕ) (vs rest : List ℕ) → next ≡ at + 4 → numberAt text at low high .fault ≡ 0
-      → drop next text ≡ fieldsOf vs ++ rest → drop at text ≡ fieldsOf (numberAt text at low high .value ∷ vs) ++ rest
+      → drop next text ≡ fieldsOf columns vs ++ rest → drop at text ≡ fieldsOf columns (numberAt text at low high .value ∷ vs) ++ rest
   unfolding numberAt fieldsOf flatMap
   number-back at low high next vs rest n e f =
       let v = inRange (fieldOf text at) low high .value in
       let bytes = field-unique text at v (range-passes (fieldOf text at) low high e) in
-      let follows : drop columns (drop at text) ≡ fieldsOf vs ++ rest = drop-drop columns at text ∙ rw (← n) f in
-      sym (take-append-drop columns (drop at text)) ∙ rw (bytes, follows) (sym (append-assoc (columnsOf columns v) (fieldsOf vs) rest))
+      let follows : drop columns (drop at text) ≡ fieldsOf columns vs ++ rest = drop-drop columns at text ∙ rw (← n) f in
+      sym (take-append-drop columns (drop at text)) ∙ rw (bytes, follows) (sym (append-assoc (columnsOf columns v) (fieldsOf columns vs) rest))

@@ -19,7 +19,9 @@ use Rattle.tablereader.specs.declared.Outcome.{Outcome}
 use Rattle.tablereader.specs.declared.Outcome.the-variants.{Taken}
 use Rattle.tablereader.specs.declared.record.Number.{Number}
 use Rattle.tablereader.proofs.StateRecords.{state-below}
-use Rattle.tablewriter.specs.File.{recordBytes, stateBytes}
+use Rattle.records.specs.Field.{columns}
+use Rattle.records.specs.Record.{recordBytes}
+use Rattle.tablewriter.specs.File.{stateBytes}
 use Rattle.tablefile.proofs.Pieces.{opened, closed, number-there, opened-back, closed-back, number-back, first-passes}
 use Rattle.tablefile.proofs.TakenLaws.{then-taken, taken-passes}
 use Rattle.tablefile.proofs.Rising.{addAll, Rising, none, more}
@@ -45,7 +47,7 @@ module _ (text : List ℕ) (letter n : ℕ) where
     read : stateRecord text letter n at low ≡ record { fault = 0; value = q }
     follows : drop (at + stateSize) text ≡ rest
 
-  state-read : (at low q : ℕ) (rest : List ℕ) → low ≤ q → q < n → n ≤ 9999 → drop at text ≡ recordBytes letter (q ∷ []) ++ rest → StateRead at low q rest
+  state-read : (at low q : ℕ) (rest : List ℕ) → low ≤ q → q < n → n ≤ 9999 → drop at text ≡ recordBytes columns letter (q ∷ []) ++ rest → StateRead at low q rest
   unfolding stateRecord firstOf
   state-read at low q rest h k m e =
       let o = opened text at letter (at + 1) (q ∷ []) rest refl e in
@@ -63,7 +65,7 @@ module _ (text : List ℕ) (letter n : ℕ) where
   unfolding readStates stateBytes flatMap outcomeOf _▸_
   states-read at low rec s [] rest m r e = let here : at + stateSize * 0 ≡ at = omega arith in record { read = refl; follows = rw here e }
   states-read at low rec s (q ∷ qs) rest m (more h k r) e =
-      let one = state-read at low q (stateBytes letter qs ++ rest) h k m (e ∙ append-assoc (recordBytes letter (q ∷ [])) (stateBytes letter qs) rest) in
+      let one = state-read at low q (stateBytes letter qs ++ rest) h k m (e ∙ append-assoc (recordBytes columns letter (q ∷ [])) (stateBytes letter qs) rest) in
       let others = states-read (at + stateSize) (q + 1) (rec + 1) (withState s q) qs rest m r (one .follows) in
       let place : at + stateSize * suc (length qs) ≡ at + stateSize + stateSize * length qs = omega arith in
       record {
@@ -80,7 +82,7 @@ module _ (text : List ℕ) (letter n : ℕ) where
   -- the record at a place is the one of the state that it gives, which is at least `low`
   record StateBack (at low : ℕ) : Type 0 where
     rises : low ≤ stateRecord text letter n at low .value
-    bytes : drop at text ≡ recordBytes letter (stateRecord text letter n at low .value ∷ []) ++ drop (at + stateSize) text
+    bytes : drop at text ≡ recordBytes columns letter (stateRecord text letter n at low .value ∷ []) ++ drop (at + stateSize) text
 
   state-back : (at low : ℕ) → stateRecord text letter n at low .fault ≡ 0 → StateBack at low
   unfolding stateRecord
@@ -125,6 +127,6 @@ module _ (text : List ℕ) (letter n : ℕ) where
         taken = both .0;
         bytes =
             rw place
-            (one .bytes ∙ ap (λ (x : List ℕ). recordBytes letter (r .value ∷ []) ++ x) (others .bytes)
-            ∙ sym (append-assoc (recordBytes letter (r .value ∷ [])) (stateBytes letter (others .states)) (drop (at + stateSize + stateSize * k) text)));
+            (one .bytes ∙ ap (λ (x : List ℕ). recordBytes columns letter (r .value ∷ []) ++ x) (others .bytes)
+            ∙ sym (append-assoc (recordBytes columns letter (r .value ∷ [])) (stateBytes letter (others .states)) (drop (at + stateSize + stateSize * k) text)));
       }

@@ -21,7 +21,9 @@ use Rattle.tablereader.specs.declared.Outcome.{Outcome}
 use Rattle.tablereader.specs.declared.Outcome.the-variants.{Taken}
 use Rattle.tablereader.specs.declared.record.Number.{Number}
 use Rattle.tablereader.proofs.Checks.{value-high}
-use Rattle.tablewriter.specs.File.{fieldsOf, recordBytes, transitionBytes}
+use Rattle.records.specs.Field.{columns}
+use Rattle.records.specs.Record.{fieldsOf, recordBytes}
+use Rattle.tablewriter.specs.File.{transitionBytes}
 use Rattle.tablefile.proofs.Pieces.{opened, closed, number-there, opened-back, closed-back, number-back, first-passes}
 use Rattle.tablefile.proofs.TakenLaws.{then-taken, taken-passes}
 use Rattle.tablefile.proofs.Filled.{sets-more, filled, getD-firsts, filled-firsts, firsts-filled}
@@ -66,7 +68,7 @@ module _ (text : List ℕ) where
     read : readOutputs (length y) text at i 0 output ≡ record { fault = 0; output = sets output i y }
     follows : drop (at + 4 * length y) text ≡ rest
 
-  outputs-read : (at i : ℕ) (output : List OutputCode) (y : OutputWord) (rest : List ℕ) → Codes y → drop at text ≡ fieldsOf (bytesOf y) ++ rest
+  outputs-read : (at i : ℕ) (output : List OutputCode) (y : OutputWord) (rest : List ℕ) → Codes y → drop at text ≡ fieldsOf columns (bytesOf y) ++ rest
       → OutputsRead at i output y rest
   unfolding readOutputs fieldsOf flatMap firstOf
   outputs-read at i output [] rest c e = let here : at + 4 * 0 ≡ at = omega arith in record { read = refl; follows = rw here e }
@@ -90,10 +92,10 @@ module _ (text : List ℕ) where
     size : length word ≡ k
     stored : readOutputs k text at i fault output .output ≡ sets output i word
     passes : fault ≡ 0
-    bytes : drop at text ≡ fieldsOf (bytesOf word) ++ rest
+    bytes : drop at text ≡ fieldsOf columns (bytesOf word) ++ rest
 
   outputs-back : (k at i fault : ℕ) (output : List OutputCode) (rest : List ℕ) → readOutputs k text at i fault output .fault ≡ 0
-      → drop (at + 4 * k) text ≡ fieldsOf [] ++ rest → OutputsBack k at i fault output rest
+      → drop (at + 4 * k) text ≡ fieldsOf columns [] ++ rest → OutputsBack k at i fault output rest
   unfolding readOutputs
   outputs-back zero at i fault output rest e f =
       let here : at + 4 * 0 ≡ at = omega arith in
@@ -185,7 +187,7 @@ module _ (text : List ℕ) where
         rw (w .stored) (rw (w .size) at (firsts-filled noCode noCode mostOutputs (w .word) (omega (arith, w .size))))
         in
         opened-back text at letterL (at + 1) (from .value ∷ to .value ∷ input .value ∷ count .value ∷ y) rest refl (p .0) f
-        ∙ ap (λ (x : OutputWord). recordBytes letterL (from .value ∷ to .value ∷ input .value ∷ count .value ∷ bytesOf x) ++ rest) (sym written)
+        ∙ ap (λ (x : OutputWord). recordBytes columns letterL (from .value ∷ to .value ∷ input .value ∷ count .value ∷ bytesOf x) ++ rest) (sym written)
 
     -- ---- all transitions
 

@@ -6,21 +6,22 @@ use Prim.Native.Nat.{ℕ, zero, suc, _+_, _*_, _≤_}
 use native.Mathlib.Numerals.{add-one}
 use native.Mathlib.Omega.{arith}
 use lib.ListN.{length, length-append, length-map}
+use Rattle.buffers.proofs.Parts.{below}
 use Rattle.records.specs.Field.{columns}
-use Rattle.records.specs.Number.{columnsOf}
-use Rattle.records.proofs.Columns.{length-columns}
+use Rattle.records.specs.Letters.{letterT, letterS, letterF, letterL, mostBytes}
+use Rattle.records.specs.Record.{recordBytes}
+use Rattle.records.proofs.RecordBytes.{length-record}
 use Rattle.transducer.specs.Limits.{mostStates, mostOutputs}
 use Rattle.transducer.specs.StateSet.{has, In}
-use Rattle.transducer.specs.Transition.{at, firsts, writtenBy, bytesOf}
+use Rattle.transducer.specs.Transition.{at, writtenBy, bytesOf}
 use Rattle.transducer.specs.Valid.{Valid}
 use Rattle.transducer.specs.declared.OutputCode.{OutputCode}
 use Rattle.transducer.specs.declared.StateSet.{StateSet}
 use Rattle.transducer.specs.declared.Transition.{Transition}
 use Rattle.transducer.specs.declared.Transducer.{Transducer}
 use Rattle.transducer.proofs.SizeLaws.{length-written}
-use Rattle.tablewriter.specs.File.{fieldsOf, recordBytes, stateAt, statesBelow, statesOf, sizeOf, stateBytes, transitionBytes, transitionBytesBelow, outputsBelow, allOutputs, headerBytes, writeOf}
-use Rattle.records.specs.Letters.{letterT, letterS, letterF, letterL, recordEnd, mostBytes}
-use Rattle.tablewriter.proofs.FileLaws.{transitions-grow}
+use Rattle.tablewriter.specs.File.{stateAt, statesBelow, statesOf, sizeOf, stateBytes, transitionBytes, transitionBytesBelow, outputsBelow, allOutputs, headerBytes, writeOf}
+use Rattle.tablewriter.proofs.FileLaws.{transitions-parts}
 
 -- ---- sets of states and output codes
 
@@ -64,35 +65,25 @@ few-outputs t v (suc n) h = omega (arith, few-outputs t v n (omega arith), v .us
 
 -- ---- records
 
-length-fields : (numbers : List ℕ) → length (fieldsOf numbers) ≡ 4 * length numbers
-unfolding fieldsOf flatMap
-length-fields [] = refl
-length-fields (v ∷ vs) = omega (arith, length-append (columnsOf columns v) (fieldsOf vs), length-columns columns v, length-fields vs)
-
-length-record : (letter : ℕ) (numbers : List ℕ) → length (recordBytes letter numbers) ≡ 2 + 4 * length numbers
-unfolding recordBytes
-length-record letter numbers =
-    omega (arith, length-append (letter ∷ fieldsOf numbers) (recordEnd ∷ []), length-fields numbers)
-
 length-states : (letter : ℕ) (states : List ℕ) → length (stateBytes letter states) ≡ 6 * length states
 unfolding stateBytes flatMap
 length-states letter [] = refl
 length-states letter (q ∷ qs) =
-    omega (arith, length-append (recordBytes letter (q ∷ [])) (stateBytes letter qs), length-record letter (q ∷ []), length-states letter qs)
+    omega (arith, length-append (recordBytes columns letter (q ∷ [])) (stateBytes letter qs), length-record columns letter (q ∷ []), length-states letter qs)
 
 length-transition : (v : Transition) → length (transitionBytes v) ≡ 18 + 4 * v .count
 unfolding transitionBytes
 length-transition v =
     let codes : length (bytesOf (writtenBy v)) ≡ v .count = length-map (writtenBy v) (λ (c : OutputCode). c .0) ∙ length-written v in
-    omega (arith, length-record letterL (v .from ∷ v .to ∷ v .input .0 ∷ v .count ∷ bytesOf (writtenBy v)))
+    omega (arith, length-record columns letterL (v .from ∷ v .to ∷ v .input .0 ∷ v .count ∷ bytesOf (writtenBy v)))
 
 length-transitions : (t : Transducer) (n : ℕ) → length (transitionBytesBelow t n) ≡ 18 * n + 4 * outputsBelow t n
-unfolding outputsBelow transitionBytesBelow firsts flatMap
-length-transitions t zero = refl
-length-transitions t (suc n) =
-    let front = transitionBytesBelow t n in
-    let more = rw (add-one n) at (ap length (transitions-grow t .more n) ∙ length-append front (transitionBytes (at t n))) in
-    omega (arith, length-transitions t n, length-transition (at t n))
+unfolding outputsBelow below
+length-transitions t n = ap length (transitions-parts t n) ∙ go n
+  where
+    go : (n : ℕ) → length (below (λ l. transitionBytes (at t l)) n) ≡ 18 * n + 4 * outputsBelow t n
+    go zero = refl
+    go (suc n) = omega (arith, length-append (below (λ l. transitionBytes (at t l)) n) (transitionBytes (at t n)), length-transition (at t n), go n)
 
 -- ---- the file
 
@@ -109,7 +100,7 @@ written-length t =
       length-append (header ++ starts ++ finals) transitions,
       length-append (header ++ starts) finals,
       length-append header starts,
-      length-record letterT (t .states ∷ sizeOf (t .starts) ∷ sizeOf (t .finals) ∷ t .count ∷ []),
+      length-record columns letterT (t .states ∷ sizeOf (t .starts) ∷ sizeOf (t .finals) ∷ t .count ∷ []),
       length-states letterS (statesOf (t .starts)),
       length-states letterF (statesOf (t .finals)),
       length-transitions t (t .count),

@@ -1,5 +1,4 @@
 -- Laws of the definitions, for the crates above.
-pub mod TurnLaws
 pub mod FileLaws
 pub mod LengthLaws
 pub mod Determined

@@ -5,24 +5,14 @@ use mathlib.Core.List.{List, [], _∷_, _++_, flatMap}
 use Prim.Native.Nat.{ℕ, zero, suc, _+_}
 use lib.ListN.{length}
 use Rattle.records.specs.Field.{columns}
-use Rattle.records.specs.Letters.{letterT, letterS, letterF, letterL, recordEnd}
-use Rattle.records.specs.Number.{columnsOf}
+use Rattle.records.specs.Letters.{letterT, letterS, letterF, letterL}
+use Rattle.records.specs.Record.{recordBytes}
 use Rattle.transducer.specs.Limits.{mostStates}
 use Rattle.transducer.specs.StateSet.{has}
 use Rattle.transducer.specs.Transition.{bytesOf, at, firsts, writtenBy}
 use Rattle.transducer.specs.declared.StateSet.{StateSet}
 use Rattle.transducer.specs.declared.Transition.{Transition}
 use Rattle.transducer.specs.declared.Transducer.{Transducer}
-
--- ---- a record
-
--- number fields, four columns each
-unfoldable pub fieldsOf : List ℕ → List ℕ
-fieldsOf numbers = flatMap (columnsOf columns) numbers
-
--- a record: its letter, its number fields and the byte that ends it
-unfoldable pub recordBytes : ℕ → List ℕ → List ℕ
-recordBytes letter numbers = letter ∷ fieldsOf numbers ++ (recordEnd ∷ [])
 
 -- ---- sets of states
 
@@ -45,13 +35,13 @@ sizeOf s = length (statesOf s)
 
 -- a record for each of the states
 unfoldable pub stateBytes : ℕ → List ℕ → List ℕ
-stateBytes letter states = flatMap (λ q. recordBytes letter (q ∷ [])) states
+stateBytes letter states = flatMap (λ q. recordBytes columns letter (q ∷ [])) states
 
 -- ---- transitions
 
 -- the record of a transition: the states that it leaves and enters, its input, the count of its outputs, and the outputs
 unfoldable pub transitionBytes : Transition → List ℕ
-transitionBytes v = recordBytes letterL (v .from ∷ v .to ∷ v .input .0 ∷ v .count ∷ bytesOf (writtenBy v))
+transitionBytes v = recordBytes columns letterL (v .from ∷ v .to ∷ v .input .0 ∷ v .count ∷ bytesOf (writtenBy v))
 
 -- a record for each of the transitions below n
 unfoldable pub transitionBytesBelow : Transducer → ℕ → List ℕ
@@ -70,7 +60,7 @@ allOutputs t = outputsBelow t (t .count)
 
 -- the first record: n, how many start states and final states there are, k
 unfoldable pub headerBytes : Transducer → List ℕ
-headerBytes t = recordBytes letterT (t .states ∷ sizeOf (t .starts) ∷ sizeOf (t .finals) ∷ t .count ∷ [])
+headerBytes t = recordBytes columns letterT (t .states ∷ sizeOf (t .starts) ∷ sizeOf (t .finals) ∷ t .count ∷ [])
 
 -- the bytes of the file
 unfoldable pub writeOf : Transducer → List ℕ

@@ -3,12 +3,11 @@ ghost use mathlib.Core.Path.{_≡_};
 ghost use lib.ListN.{length};
 ghost use Rattle.transducer.specs.Valid.{Valid};
 ghost use Rattle.tablewriter.specs.File.{sizeOf, allOutputs, writeOf};
+use records::writer::COLUMNS;
 use transducer::StateSet;
 use transducer::Transducer;
 use transducer::limits;
 
-// The columns of a field, a byte each.
-pub const COLUMNS: usize = 4;
 // The bytes of a record with one field, `S` or `F`: the letter, the field and the end.
 const ONE_FIELD: usize = 2 + COLUMNS;
 // The bytes of a record with four fields: `T`, and `L` without its output codes.
@@ -25,10 +24,10 @@ pub fn file_length(t: Transducer) -> usize
 }
 
 // How many states are in s.
-pub fn count_states(s: StateSet) -> u32
+pub fn count_states(s: StateSet) -> u16
     ensures { λ r. ⌜ r ≡ sizeOf s ⌝ }
 {
-    let mut n: u32 = 0;
+    let mut n: u16 = 0;
     for q in 0..limits::STATES {
         if s.contains(q as u8) {
             n += 1;

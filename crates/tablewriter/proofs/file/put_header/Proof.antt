@@ -1,20 +1,14 @@
--- `put_header` meets its contract: the letter with four fields and the end are put one after the other. Assumes nothing.
+-- `put_header` meets its contract: the counts of states are the numbers of the first record. Assumes nothing.
+use mathlib.Core.Path.{_≡_}
 use mathlib.Core.List.{[], _∷_}
+use native.Mathlib.Omega.{arith}
 use borrow.Author.Needs.{needs}
-use denote.Ref.{now}
-use Rattle.tablewriter.specs.File.{fieldsOf, headerBytes}
-use Rattle.records.specs.Letters.{letterT, recordEnd}
-use Rattle.buffers.proofs.PutsLaws.{Left, left-all, left-room, left-next, left-none}
-use Rattle.tablewriter.proofs.FileLaws.{header-parts}
+use Rattle.records.specs.Field.{columns}
+use Rattle.records.specs.Letters.{letterT}
+use Rattle.records.specs.Record.{recordBytes}
+use Rattle.tablewriter.specs.File.{headerBytes}
 use Rattle.tablewriter.proofs.file.put_header.Statement.{statement}
 use Rattle.tablewriter.proofs.file.put_header.Tie as tie
-
-all-left : (c : tie.After-count-states2)
-    → let s = c .before .before .before in
-    let t = s .args .t in
-    Left (now (s .args .out)) 0 (headerBytes t) (now (s .args .out)) 0
-    ((letterT ∷ fieldsOf (t .states ∷ c .before .count-states .result ∷ c .count-states2 .result ∷ t .count ∷ [])) ∷ (recordEnd ∷ []) ∷ [])
-all-left c = left-all _ (rw (c .before .count-states .ensures, c .count-states2 .ensures) (header-parts _)) (c .before .before .before .pre)
 
 count-states-requires : tie.Need-count-states-requires
 count-states-requires c κs = search needs
@@ -22,28 +16,31 @@ count-states-requires c κs = search needs
 count-states-requires-2 : tie.Need-count-states-requires-2
 count-states-requires-2 c κs = search needs
 
-cast-put-front : tie.Need-cast-put-front
-cast-put-front c = search needs
+cast-t6 : tie.Need-cast-t6
+cast-t6 c = search needs
 
-cast-put-front-2 : tie.Need-cast-put-front-2
-cast-put-front-2 c = search needs
+slice-aggregate-put-record : tie.Need-slice-aggregate-put-record
+slice-aggregate-put-record c = search needs
 
-put-front-requires : tie.Need-put-front-requires
-put-front-requires c κs = left-room (all-left (c .before .before .before))
+-- the place behind the second count, seen from the call
+abbrev counted : tie.After-numbers → tie.After-count-states2
+counted c = c .before .before .before
 
-put-byte-requires : tie.Need-put-byte-requires
-put-byte-requires c κs =
-    let p = c .before .before .before in
-    left-room (left-next (all-left (p .before .before .before .before)) (p .put-front .ensures))
+-- the first record has the two counts
+header : (c : tie.After-count-states2)
+    → let t = c .before .before .before .args .t in
+    headerBytes t ≡ recordBytes columns letterT (t .states ∷ c .before .count-states .result ∷ c .count-states2 .result ∷ t .count ∷ [])
+unfolding headerBytes
+header c = rw (c .before .count-states .ensures, c .count-states2 .ensures)
+
+put-record-requires : tie.Need-put-record-requires
+put-record-requires c κs = (omega arith, rw (header (counted c)) at (counted c .before .before .before .pre))
 
 same-length : tie.Need-same-length
 same-length c = search needs
 
 returns : tie.Need-returns
-returns c =
-    let q = c .before .before in
-    let p = q .before .before .before .before in
-    left-none (left-next (left-next (all-left (p .before .before .before .before)) (p .put-front .ensures)) (q .put-byte .ensures))
+returns c = let put = c .before .before in rw (header (counted (put .before))) (put .put-record .ensures)
 
 pub put-header-spec : {M : Type 1} → statement M
 put-header-spec =
@@ -51,9 +48,8 @@ put-header-spec =
     (tie.spec
     count-states-requires
     count-states-requires-2
-    cast-put-front
-    cast-put-front-2
-    put-front-requires
-    put-byte-requires
+    cast-t6
+    slice-aggregate-put-record
+    put-record-requires
     same-length
     returns)

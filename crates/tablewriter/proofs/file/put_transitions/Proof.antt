@@ -1,26 +1,26 @@
 -- `put_transitions` meets its contract. The loop's invariant: the records of the transitions below l are put. Assumes nothing.
-use Prim.Native.Nat.{_≤_, _-_}
+use Prim.Native.Nat.{_-_}
 use native.Mathlib.Omega.{arith}
 use borrow.Author.Needs.{needs}
-use Rattle.tablewriter.specs.File.{transitionBytesBelow}
-use Rattle.buffers.specs.Put.{Puts}
-use Rattle.buffers.proofs.PutsLaws.{puts-length}
-use Rattle.tablewriter.proofs.TurnLaws.{turn-none, turn-room, turn, turns-done}
-use Rattle.tablewriter.proofs.FileLaws.{transitions-grow}
+use Rattle.buffers.proofs.Parts.{Parts, parts-none, parts-length, part-room, part-next, parts-all}
+use Rattle.transducer.specs.Transition.{at}
+use Rattle.tablewriter.specs.File.{transitionBytes, transitionBytesBelow}
+use Rattle.tablewriter.proofs.FileLaws.{transitions-parts}
 use Rattle.tablewriter.proofs.file.put_transitions.Statement.{statement}
 use Rattle.tablewriter.proofs.file.put_transitions.Tie as tie
 
 abbrev Inv-loop : tie.InvT-loop
-Inv-loop out₀ start t count at₀ l₀ out at l = (l ≤ count) × Puts out₀ start (transitionBytesBelow t l) out at
+Inv-loop out₀ start t count at₀ l₀ out place l =
+    Parts (transitionBytesBelow t (t .count)) (λ l. transitionBytes (at t l)) (t .count) out₀ start l out place
 
 abbrev μ-loop : tie.MeasureT-loop
-μ-loop out₀ start t count at₀ l₀ out at l = count - l
+μ-loop out₀ start t count at₀ l₀ out place l = count - l
 
 cast-count : tie.Need-cast-count Inv-loop μ-loop
 cast-count c = search needs
 
 loop-holds : tie.Need-loop-holds Inv-loop μ-loop
-loop-holds c = (omega arith, turn-none (transitions-grow (c .before .args .t3)))
+loop-holds c = parts-none (transitions-parts _ _) (c .before .pre .1)
 
 mul-v : tie.Need-mul-v Inv-loop μ-loop
 mul-v c = search needs
@@ -31,9 +31,8 @@ element-copy-out-v c = search needs
 put-transition-requires : tie.Need-put-transition-requires Inv-loop μ-loop
 put-transition-requires c κs =
     let i = c .before .before .before in
-    let s = i .before .before in
     let h = c .before .before .loop-test .taken in
-    (s .pre .0 .used (i .loop .l) h .few-outputs, turn-room (transitions-grow (s .args .t3)) (s .args .t3 .count) (s .pre .1) (i .loop .l) (i .loop .inv .1) h)
+    (i .before .before .pre .0 .used (i .loop .l) h .few-outputs, part-room (i .loop .inv) h)
 
 add-l : tie.Need-add-l Inv-loop μ-loop
 add-l c = search needs
@@ -43,22 +42,14 @@ loop-less c = search needs
 
 loop-again : tie.Need-loop-again Inv-loop μ-loop
 loop-again c =
-    let i = c .before .before .before .before .before .before in
-    let s = i .before .before in (
-      search needs,
-      turn (transitions-grow (s .args .t3)) (s .args .t3 .count) (s .pre .1) (i .loop .l) (i .loop .inv .1)
-          (c .before .before .before .before .before .loop-test .taken)
-          (c .before .before .put-transition .ensures),
-    )
-
-returns : tie.Need-returns Inv-loop μ-loop
-returns c =
-    let i = c .before in
-    let s = i .before .before in
-    turns-done (transitions-grow (s .args .t3)) (s .args .t3 .count) (s .pre .1) (i .loop .l) (i .loop .inv .1) (i .loop .inv .0) (c .loop-test .left)
+    let turn = c .before .before .before .before .before in
+    part-next (turn .before .loop .inv) (turn .loop-test .taken) (c .before .before .put-transition .ensures)
 
 same-length : tie.Need-same-length Inv-loop μ-loop
-same-length c = puts-length (c .before .before .before .pre .1) (returns c)
+same-length c = parts-length (c .before .loop .inv)
+
+returns : tie.Need-returns Inv-loop μ-loop
+returns c = parts-all (c .before .loop .inv) (c .loop-test .left)
 
 pub put-transitions-spec : {M : Type 1} → statement M
 put-transitions-spec =

@@ -1,4 +1,4 @@
--- `put_number` meets its contract. The loop's invariant: the columns that are left, put into the list as it is now, give the same as all the columns
+-- `put_field` meets its contract. The loop's invariant: the columns that are left, put into the list as it is now, give the same as all the columns
 -- in front of the last digit, put into the list as the loop found it. Assumes nothing.
 use mathlib.Core.Path.{_≡_, refl, sym, ap, _∙_}
 use mathlib.Core.List.{List, [], _∷_, _++_}
@@ -7,13 +7,14 @@ use native.Mathlib.Nat.{not-suc-le-zero}
 use native.Mathlib.Numerals.{sub-one}
 use native.Mathlib.Omega.{arith}
 use borrow.Author.Needs.{needs}
+use denote.Ref.{now}
 use lib.ListN.{length, set, length-set}
 use Rattle.records.specs.Number.{digitOf, leadingOf, leadingsOf, columnsOf}
-use Rattle.records.proofs.Columns.{length-leadings}
+use Rattle.records.proofs.Columns.{length-leadings, length-columns}
 use Rattle.buffers.specs.Put.{put}
 use Rattle.buffers.proofs.PutLaws.{put-none, put-before}
-use Rattle.records.proofs.number.put_number.Statement.{statement}
-use Rattle.records.proofs.number.put_number.Tie as tie
+use Rattle.records.proofs.number.put_field.Statement.{statement}
+use Rattle.records.proofs.number.put_field.Tie as tie
 
 module _ (out : List ℕ) (at : ℕ) where
   -- a byte is stored before the columns in front of it
@@ -45,6 +46,10 @@ Inv-loop out₀ at width v left₀ rest₀ out left rest =
 abbrev μ-loop : tie.MeasureT-loop
 μ-loop out₀ at width v left₀ rest₀ out left rest = left
 
+-- the columns stand within the buffer
+columns-room : (s : tie.Start Inv-loop μ-loop) → s .args .at + s .args .width ≤ length (now (s .args .out))
+columns-room s = omega (arith, length-columns (s .args .width) (s .args .v), s .pre .1 .room)
+
 sub-left : tie.Need-sub-left Inv-loop μ-loop
 sub-left c = search needs
 
@@ -55,13 +60,13 @@ add-out : tie.Need-add-out Inv-loop μ-loop
 add-out c = search needs
 
 add-out-2 : tie.Need-add-out-2 Inv-loop μ-loop
-add-out-2 c = search needs
+add-out-2 c = omega (arith, columns-room (c .before))
 
 slice-write-out : tie.Need-slice-write-out Inv-loop μ-loop
-slice-write-out c = search needs
+slice-write-out c = omega (arith, columns-room (c .before))
 
 loop-holds : tie.Need-loop-holds Inv-loop μ-loop
-loop-holds c = (refl, refl, omega arith, simp length-set (c .before .pre .1))
+loop-holds c = (refl, refl, omega arith, simp length-set (columns-room (c .before)))
 
 sub-left-2 : tie.Need-sub-left-2 Inv-loop μ-loop
 sub-left-2 c = search needs
@@ -70,10 +75,10 @@ leading-requires : tie.Need-leading-requires Inv-loop μ-loop
 leading-requires c κs = search needs
 
 add-out-3 : tie.Need-add-out-3 Inv-loop μ-loop
-add-out-3 c = search needs
+add-out-3 c = omega (arith, columns-room (c .before .before .before .before))
 
 slice-write-out-2 : tie.Need-slice-write-out-2 Inv-loop μ-loop
-slice-write-out-2 c = search needs
+slice-write-out-2 c = omega arith
 
 loop-less : tie.Need-loop-less Inv-loop μ-loop
 loop-less c = search needs
@@ -86,13 +91,20 @@ loop-again c =
 same-length : tie.Need-same-length Inv-loop μ-loop
 same-length c = c .before .loop .inv .1 ∙ simp length-set
 
+add-result : tie.Need-add-result Inv-loop μ-loop
+add-result c = omega (arith, columns-room (c .before .before .before))
+
 returns : tie.Need-returns Inv-loop μ-loop
 returns c =
     let s = c .before .before .before in
-    sym (stored _ _ _ _ (c .loop-test .left)) ∙ c .before .loop .inv .0 ∙ store-last _ _ _ _ (s .pre .0) (s .pre .1)
+    record {
+      buffer =
+          sym (stored _ _ _ _ (c .loop-test .left)) ∙ c .before .loop .inv .0 ∙ store-last _ _ _ _ (s .pre .0) (columns-room s);
+      place = ap (λ (n : ℕ). s .args .at + n) (sym (length-columns (s .args .width) (s .args .v)));
+    }
 
-pub put-number-spec : {M : Type 1} → statement M
-put-number-spec =
+pub put-field-spec : {M : Type 1} → statement M
+put-field-spec =
     tie.close
     (tie.spec
     Inv-loop
@@ -109,5 +121,6 @@ put-number-spec =
     slice-write-out-2
     loop-less
     loop-again
+    add-result
     same-length
     returns)
