@@ -9,9 +9,7 @@ use Rattle.transducer.specs.Refusals as refusal
 use Rattle.transducer.specs.Transition.{OutputWord, wordOf, bytesOf}
 use Rattle.transducer.specs.Paths.{Relates}
 use Rattle.transducer.specs.declared.Transducer.{Transducer}
-use Rattle.worklist.specs.Search.{Chain}
 use Rattle.wordsearch.specs.Limits.{mostWritten}
-use Rattle.wordsearch.specs.Answers.{writesBack}
 use Rattle.translator.specs.Numbers.{numberOf, lengthOf}
 use Rattle.translator.specs.Words.{refusalOf}
 use Rattle.translator.specs.declared.Translation.{Translation}
@@ -43,14 +41,3 @@ pub record Same (out₀ out out₀′ out′ : List ℕ) (r r′ : Translation) 
   pub size : lengthOf r ≡ length bytes
   pub one : out ≡ put out₀ 0 bytes
   pub other : out′ ≡ put out₀′ 0 bytes
-
--- ---- the parts
-
-module _ (t : Transducer) (parent via : List ℕ) (place : ℕ) where
-  -- n is the length of what the transitions write along which the parents lead back from the place
-  abbrev pub Measured : ℕ → Type 0
-  Measured n = (labels : List ℕ) → Chain parent via place labels → n ≡ length (writesBack t labels)
-
-  -- it stands at the front of the buffer
-  abbrev pub WrittenBack : List ℕ → List ℕ → Type 0
-  WrittenBack out₀ out = (labels : List ℕ) → Chain parent via place labels → out ≡ put out₀ 0 (bytesOf (writesBack t labels))

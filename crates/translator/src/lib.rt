@@ -8,11 +8,10 @@ ghost use Rattle.buffers.specs.Put.{put};
 ghost use Rattle.transducer.specs.Limits.{mostOutputs};
 ghost use Rattle.transducer.specs.Transition.{writtenBy, bytesOf};
 ghost use Rattle.transducer.specs.Valid.{Valid};
-ghost use Rattle.wordsearch.specs.Limits.{mostNodes};
-ghost use Rattle.wordsearch.specs.Answers.{Traced};
+ghost use Rattle.wordsearch.specs.Answers.{written, Traced};
 ghost use Rattle.translator.specs.Numbers.{numberOf, lengthOf};
 ghost use Rattle.translator.specs.Words.{allCodes};
-ghost use Rattle.translator.specs.Translated.{Translated, Measured, WrittenBack};
+ghost use Rattle.translator.specs.Translated.{Translated};
 use transducer::Transducer;
 use transducer::Transition;
 use transducer::refusals;
@@ -102,10 +101,8 @@ fn codes_ok(input: &[u8]) -> bool
 // The length of what the path writes along which the parents lead back from the place.
 fn measure(t: Transducer, parent: &[u32], via: &[u32], place: u32) -> usize
     requires { ⌜ Valid t ⌝ }
-    requires { ⌜ length (now parent) ≡ mostNodes ⌝ }
-    requires { ⌜ length (now via) ≡ mostNodes ⌝ }
     requires { ⌜ Traced t (now parent) (now via) place ⌝ }
-    ensures { λ r. ⌜ Measured t (now (parent .entry)) (now (via .entry)) place r ⌝ }
+    ensures { λ r. ⌜ r ≡ length (written t (now (parent .entry)) (now (via .entry)) place) ⌝ }
 {
     let mut total: usize = 0;
     let mut at = place as usize;
@@ -121,12 +118,10 @@ fn measure(t: Transducer, parent: &[u32], via: &[u32], place: u32) -> usize
 // Writes what that path writes, `size` codes, to the front of `out`: the last transition's codes first, which end at `size`.
 fn write(t: Transducer, parent: &[u32], via: &[u32], place: u32, out: &mut [u8], size: usize)
     requires { ⌜ Valid t ⌝ }
-    requires { ⌜ length (now parent) ≡ mostNodes ⌝ }
-    requires { ⌜ length (now via) ≡ mostNodes ⌝ }
     requires { ⌜ Traced t (now parent) (now via) place ⌝ }
-    requires { ⌜ Measured t (now parent) (now via) place size ⌝ }
+    requires { ⌜ size ≡ length (written t (now parent) (now via) place) ⌝ }
     requires { ⌜ size ≤ length (now out) ⌝ }
-    ensures { λ _. ⌜ WrittenBack t (now (parent .entry)) (now (via .entry)) place (now (out .entry)) (now (out .exit)) ⌝ }
+    ensures { λ _. ⌜ now (out .exit) ≡ put (now (out .entry)) 0 (bytesOf (written t (now (parent .entry)) (now (via .entry)) place)) ⌝ }
 {
     let mut to = size;
     let mut at = place as usize;

@@ -1,10 +1,10 @@
 -- How the search answers: at a node where an accepting path ends the parents lead back along one, and where no node found is such a node there
 -- is no accepting path that reads the word.
-use mathlib.Core.Path.{_≡_, sym, _∙_}
+use mathlib.Core.Path.{_≡_, sym, ap, _∙_}
 use mathlib.Core.Bool.{true, false}
-use mathlib.Core.List.{List, append-nil}
+use mathlib.Core.List.{List, append-nil, reverse}
 use mathlib.Core.Logic.{⊎-elim}
-use Prim.Native.Nat.{ℕ, _+_, _*_, _≤_, _<_}
+use Prim.Native.Nat.{ℕ, _+_, _*_, _<_}
 use native.Mathlib.Omega.{arith}
 use lib.ListN.{length, getD, length-reverse}
 use lib.Seq.{drop-length}
@@ -16,9 +16,11 @@ use Rattle.transducer.specs.Paths.{Relates}
 use Rattle.transducer.specs.declared.Transducer.{Transducer}
 use Rattle.transducer.proofs.Facts.{in-below}
 use Rattle.transducer.proofs.SizeLaws.{length-writes}
+use Rattle.worklist.specs.Links.{wayFrom}
 use Rattle.worklist.specs.Lists.{Worklist}
-use Rattle.worklist.specs.Search.{Grown, Exact}
-use Rattle.worklist.proofs.Findings.{at-most, found-has-place}
+use Rattle.worklist.specs.Search.{Chain, Grown, Exact}
+use Rattle.worklist.proofs.Findings.{lengths, at-most, found-has-place}
+use Rattle.worklist.proofs.Chains.{way-is}
 use Rattle.worklist.proofs.WayBack.{older, chain-of, trail}
 use Rattle.product.specs.Machine.{ImageOf}
 use Rattle.product.proofs.ImageLaws.{edge-of}
@@ -30,19 +32,25 @@ use Rattle.wordsearch.proofs.PathsOfNodes.{trail-spells, accepting-reac
 
 module _ {t : Transducer} (valid : Valid t) {m : List ℕ} (image : ImageOf t false m) {input : List ℕ} {N : ℕ} where
   -- a place whose node ends an accepting path is an answer
-  hit : {s : Worklist} {i : ℕ} → N ≤ mostNodes → Grown (In (t .starts)) (Leads true m input) N s → i < s .count
+  hit : {s : Worklist} {i : ℕ} → N ≡ mostNodes → Grown (In (t .starts)) (Leads true m input) N s → i < s .count
       → Ends (t .finals) input (getD (s .order) i 0) → Answered t (s .parent) (s .via) (wordOf input) i
-  hit few g h e =
+  hit {s} {i} same g h e =
+      let n = lengths g in
       let c = chain-of g h in
-      let p = trail-spells image input (trail g h (c .2)) in
+      let way = way-is (c .2) (omega (arith, c .1, at-most g, n .parent)) in
+      let chain : Chain (s .parent) (s .via) i (wayFrom (s .parent) (s .via) i) = rw way (c .2) in
+      let p = trail-spells image input (trail g h chain) in
+      let short = ap length way in
       Answered.found
       (record {
-        labels = c .0;
-        chain = c .2;
+        parents = n .parent ∙ same;
+        labels = n .via ∙ same;
         inside = omega (arith, at-most g);
+        chain = chain;
+        short = omega (arith, short, c .1, at-most g);
         older = λ k l. older g (omega arith);
         used = λ k l n. ⊎-elim (λ y. absurd (n (y .0))) (λ y. edge-of image (y .3 .leaves) .used) (g .why k (omega arith));
-        few = omega (arith, length-writes (λ l b. valid .used l b .few-outputs) (p .path), length-reverse (c .0), c .1, at-most g);
+        few = omega (arith, length-writes (λ l b. valid .used l b .few-outputs) (p .path), length-reverse (wayFrom (s .parent) (s .via) i), short, c .1, at-most g);
       })
       (record { first = p .first; last = _; starts = p .starts; path = p .path; ends = e .final })
       (sym (append-nil _) ∙ rw (e .position ∙ sym (length-word input), drop-length (wordOf input)) at (p .read))
@@ -60,7 +68,7 @@ module _ {t : Transducer} (valid : Valid t) {m : List ℕ} (image : ImageOf t fa
       none (i .0) (i .1) (rw (i .2) (record { position = omega (arith, length-word input); final = rw same (a .ends) }))
 
   -- however the search ends, that is an answer
-  pub answered : {order rank parent via : List ℕ} {r : ℕ} → N ≤ mostNodes → Ended true m input (t .starts) (t .finals) N order rank parent via r
+  pub answered : {order rank parent via : List ℕ} {r : ℕ} → N ≡ mostNodes → Ended true m input (t .starts) (t .finals) N order rank parent via r
       → Answered t parent via (wordOf input) r
-  answered few (Ended.met g h e) = hit few g h e
-  answered few (Ended.all e x none) = Answered.none e (miss x none)
+  answered same (Ended.met g h e) = hit same g h e
+  answered same (Ended.all e x none) = Answered.none e (miss x none)

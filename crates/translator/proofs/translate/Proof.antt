@@ -95,7 +95,7 @@ measure-requires : tie.Need-measure-requires
 measure-requires c κs =
     let e = c .before .before in
     let k = answered-found (searched e .find .ensures) (e .if4 .left) .0 in
-    (facts (first (third (searched e))), (search needs, (search needs, k)))
+    (facts (first (third (searched e))), k)
 
 returns-5 : tie.Need-returns-5
 returns-5 c =
@@ -103,7 +103,7 @@ returns-5 c =
     let e = found m in
     let f = answered-found (searched e .find .ensures) (e .if4 .left) in
     answers (passes (third (searched e)))
-    (Outcome.short (f .2) (f .0 .few) (omega (arith, c .if5 .taken, m .measure .ensures (f .0 .labels) (f .0 .chain))) refl)
+    (Outcome.short (f .1) (f .0 .few) (omega (arith, c .if5 .taken, m .measure .ensures)) refl)
     (λ _. refl)
 
 slice-aggregate-write : tie.Need-slice-aggregate-write
@@ -117,7 +117,7 @@ write-requires c κs =
     let m = measured c in
     let e = found m in
     let k = answered-found (searched e .find .ensures) (e .if4 .left) .0 in
-    (facts (first (third (searched e))), (search needs, (search needs, (k, (m .measure .ensures, c .before .before .before .if5 .left)))))
+    (facts (first (third (searched e))), (k, (m .measure .ensures, c .before .before .before .if5 .left)))
 
 same-length : tie.Need-same-length
 same-length c = search needs
@@ -128,11 +128,9 @@ returns-6 c =
     let m = measured (w .before) in
     let e = found m in
     let f = answered-found (searched e .find .ensures) (e .if4 .left) in
-    let k = f .0 in
-    let n = m .measure .ensures (k .labels) (k .chain) in
+    let n = m .measure .ensures in
     answers (passes (third (searched e)))
-    (Outcome.written (f .2) (k .few) (omega (arith, n, w .before .before .before .before .if5 .left)) refl n
-    (w .write .ensures (k .labels) (k .chain)))
+    (Outcome.written (f .1) (f .0 .few) (omega (arith, n, w .before .before .before .before .if5 .left)) refl n (w .write .ensures))
     (λ z. absurd (z refl))
 
 pub translate-spec : {M : Type 1} → statement M

@@ -64,7 +64,7 @@ returns : tie.Need-returns
 returns c =
     let s = searched c in
     let w = written (s .before) in
-    answered (start (w .before) .pre .0) (w .by-input .ensures) (omega (arith, length-replicate {A = ℕ} mostNodes 0)) (s .search .ensures)
+    answered (start (w .before) .pre .0) (w .by-input .ensures) (length-replicate {A = ℕ} mostNodes 0) (s .search .ensures)
 
 pub find-spec : {M : Type 1} → statement M
 find-spec =
