@@ -1,4 +1,4 @@
--- The letters and the end of the records of a table file, and the length of the longest file (document 01, "The file").
+-- The letters and the end of the records of a table file, their sizes, and the length of the longest file (document 01, "The file").
 use Prim.Native.Nat.{ℕ, _+_, _*_}
 use Rattle.transducer.specs.Limits.{mostStates, mostTransitions, mostOutputs}
 use Rattle.records.specs.Field.{columns}
@@ -23,7 +23,14 @@ letterL = 76
 abbrev pub recordEnd : ℕ
 recordEnd = 10
 
--- the longest file: a header of four fields, all states as start and as final states, of one field each, and all transitions, each of four fields and
--- the most output codes; a record has two bytes beside its fields
+-- the bytes of a record with so many fields: its letter, the fields and its end
+abbrev pub recordSize : ℕ → ℕ
+recordSize fields = 2 + columns * fields
+
+-- the most fields of a record: four and the output codes of a transition
+abbrev pub mostFields : ℕ
+mostFields = 4 + mostOutputs
+
+-- the longest file: a header of four fields, every state as a start state and as a final state, and every transition with all its fields
 abbrev pub mostBytes : ℕ
-mostBytes = 2 + 4 * columns + 2 * mostStates * (2 + columns) + mostTransitions * (2 + (4 + mostOutputs) * columns)
+mostBytes = recordSize 4 + 2 * mostStates * recordSize 1 + mostTransitions * recordSize mostFields

@@ -4,5 +4,6 @@ pub mod Number
 pub mod Record
 pub mod Letters
 pub mod Byte
+pub mod Reading
 pub mod Steps
 pub mod Reader

@@ -1,9 +1,7 @@
--- The round trips, for the crates above: `RoundTrips` has them all. The first seven serve this crate's own proofs, from the pieces of a record up.
-mod Pieces
+-- The round trips, for the crates above: `RoundTrips` has them all. The first five serve this crate's own proofs, from records up.
 mod TakenLaws
 mod Rising
 mod Filled
-mod HeaderRecord
 mod StateRecords
 mod TransitionRecords
 pub mod ReadWritten

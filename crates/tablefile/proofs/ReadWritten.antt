@@ -2,12 +2,15 @@
 -- nothing follows the last. Assumes nothing.
 use mathlib.Core.Path.{_≡_, refl, sym, ap, _∙_}
 use mathlib.Core.Bool.{true}
-use mathlib.Core.List.{List, [], _++_, flatten}
+use mathlib.Core.List.{List, [], _∷_, _++_, flatten}
 use Prim.Native.Nat.{ℕ, _+_, _*_, _≤_, _<_}
 use native.Mathlib.Omega.{arith}
 use borrow.Author.Tests.{le-ltb}
 use lib.ListN.{length, getD, drop, replicate, length-drop}
-use Rattle.records.specs.Letters.{letterS, letterF, mostBytes}
+use Rattle.records.specs.Letters.{letterT, letterS, letterF, mostBytes}
+use Rattle.records.specs.Reading.{filled}
+use Rattle.records.proofs.FilledLaws.{firsts-at}
+use Rattle.records.proofs.RecordTrip.{RecordRead, record-read}
 use Rattle.transducer.specs.Limits.{mostStates, mostTransitions, mostOutputs}
 use Rattle.transducer.specs.StateSet.{In, noStates}
 use Rattle.transducer.specs.Transition.{outside, at, outputAt, firsts}
@@ -20,20 +23,21 @@ use Rattle.transducer.specs.declared.Transducer.{Transducer}
 use Rattle.transducer.proofs.AcceptedLaws.{accepted-valid}
 use Rattle.transducer.proofs.SizeLaws.{length-firsts}
 use Rattle.tablereader.specs.Outcome.{outcomeOf, _▸_}
-use Rattle.tablereader.specs.Record.{headerSize, stateSize}
+use Rattle.tablereader.specs.Record.{headerRanges, headerSize, stateSize}
+use Rattle.tablereader.specs.Header.{countsOf, headerOf}
 use Rattle.tablereader.specs.States.{statesFrom}
 use Rattle.tablereader.specs.Transitions.{transitionsFrom}
 use Rattle.tablereader.specs.Reader.{endFault, startsOf, finalsOf, transitionsOf, outcomeWith, tableWith, readOf}
 use Rattle.tablereader.specs.declared.header.Header.{Header}
 use Rattle.tablereader.specs.declared.Outcome.the-variants.{Taken}
+use Rattle.tablereader.proofs.TransitionRecords.{noCode}
 use Rattle.tablewriter.specs.File.{statesOf, sizeOf, stateBytes, transitionBytesBelow, headerBytes, writeOf}
 use Rattle.tablewriter.proofs.FileLaws.{file-parts}
 use Rattle.tablewriter.proofs.LengthLaws.{size-most, written-at-most}
 use Rattle.tablefile.proofs.Rising.{add-states, set-rising}
-use Rattle.tablefile.proofs.Filled.{filled, getD-firsts, filled-firsts}
-use Rattle.tablefile.proofs.HeaderRecord.{HeaderRead, header-read}
+use Rattle.tablefile.proofs.Filled.{filled-firsts}
 use Rattle.tablefile.proofs.StateRecords.{states-read}
-use Rattle.tablefile.proofs.TransitionRecords.{noCode, zero-code, UsedIn, transitions-read}
+use Rattle.tablefile.proofs.TransitionRecords.{zero-code, UsedIn, transitions-read}
 
 -- a transition of which every place holds 0, and whose array has its length, is the one that is not in use
 clear-same : (v : Transition) → Clear v → length (v .output) ≡ mostOutputs → v ≡ clearTransition
@@ -55,7 +59,7 @@ used : (t : Transducer) → Valid t → Shaped t → (j : ℕ) → j < length (f
 used t v s j h =
     let few = v .few-transitions in
     let inside : j < t .count = omega (arith, length-firsts (t .count) (at t)) in
-    rw (getD-firsts outside (t .count) (t .transitions) j (omega (arith, s .transitions)) inside)
+    rw (firsts-at (t .count) (at t) j outside inside)
     (record { used = v .used j inside; size = s .outputs j (omega arith) })
 
 -- the counts of t
@@ -73,18 +77,28 @@ module _ (t : Transducer) (v : Valid t) (s : Shaped t) (text : List ℕ) (is : t
   transitions : List ℕ
   transitions = transitionBytesBelow t (t .count)
 
-  header : HeaderRead text (counts t) (starts ++ (finals ++ (transitions ++ [])))
+  header : RecordRead text 0 letterT headerRanges (t .states ∷ sizeOf (t .starts) ∷ sizeOf (t .finals) ∷ t .count ∷ []) (starts ++ (finals ++ (transitions ++ [])))
   unfolding flatten headerBytes starts finals transitions
   header =
-      header-read text (counts t) (starts ++ (finals ++ (transitions ++ []))) refl
-      (record {
-        some-state = v .some-state;
-        few-states = v .few-states;
-        few-starts = size-most (t .starts);
-        few-finals = size-most (t .finals);
-        few-transitions = v .few-transitions;
-      })
+      let states = v .few-states in
+      let lines = v .few-transitions in
+      let some = size-most (t .starts) in
+      let last = size-most (t .finals) in
+      record-read text 0 letterT headerRanges _ (starts ++ (finals ++ (transitions ++ []))) (
+        record { above = v .some-state; below = states; rises = omega arith; small = omega arith },
+        (
+          record { above = omega arith; below = some; rises = omega arith; small = omega arith },
+          (
+            record { above = omega arith; below = last; rises = omega arith; small = omega arith },
+            (record { above = omega arith; below = lines; rises = omega arith; small = omega arith }, tt),
+          ),
+        ),
+      )
       (is ∙ file-parts t)
+
+  header-same : headerOf text ≡ counts t
+  unfolding headerOf
+  header-same = ap countsOf (header .read)
 
   -- the records of a set of states give the set
   record SetRead (letter at rec : ℕ) (set : StateSet) (rest : List ℕ) : Type 0 where
@@ -143,7 +157,7 @@ module _ (t : Transducer) (v : Valid t) (s : Shaped t) (text : List ℕ) (is : t
 
   text-read : readOf text ≡ record { outcome = Taken; table = t }
   unfolding readOf
-  text-read = rw (header .read, outcome-taken, table-same)
+  text-read = rw (header-same, outcome-taken, table-same)
 
 -- reading a written table gives that table
 pub read-written : (t : Transducer) → acceptedOf t ≡ true → Shaped t → readOf (writeOf t) ≡ record { outcome = Taken; table = t }

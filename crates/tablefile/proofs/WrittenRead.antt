@@ -2,13 +2,17 @@
 -- nothing follows the last. Assumes nothing.
 use mathlib.Core.Path.{_≡_, refl, sym, ap, _∙_}
 use mathlib.Core.Bool.{Bool, true, false, cond}
-use mathlib.Core.List.{List, [], _++_, flatten}
+use mathlib.Core.List.{List, [], _∷_, _++_, flatten}
 use Prim.Native.Nat.{ℕ, _+_, _*_}
 use native.Mathlib.Omega.{arith}
 use borrow.Author.Tests.{ltb-false}
 use lib.Dec.{ltb}
 use lib.ListN.{length, drop, drop-of-length-le}
-use Rattle.records.specs.Letters.{letterS, letterF, mostBytes}
+use Rattle.records.specs.Field.{columns}
+use Rattle.records.specs.Letters.{letterT, letterS, letterF, mostBytes}
+use Rattle.records.specs.Record.{recordBytes}
+use Rattle.records.specs.Reading.{valuesAt, recordAt}
+use Rattle.records.proofs.RecordTrip.{record-back}
 use Rattle.transducer.specs.Limits.{mostTransitions}
 use Rattle.transducer.specs.StateSet.{noStates}
 use Rattle.transducer.specs.Transition.{outside, at, firsts}
@@ -17,7 +21,7 @@ use Rattle.transducer.specs.declared.StateSet.{StateSet}
 use Rattle.transducer.specs.declared.Transducer.{Transducer}
 use Rattle.tablereader.specs.Outcome.{outcomeOf, _▸_}
 use Rattle.transducer.specs.Refusals.{bytesFollow, tooLong}
-use Rattle.tablereader.specs.Record.{headerSize, stateSize}
+use Rattle.tablereader.specs.Record.{headerRanges, headerSize, stateSize}
 use Rattle.tablereader.specs.Header.{headerOf}
 use Rattle.tablereader.specs.States.{statesFrom}
 use Rattle.tablereader.specs.Transitions.{transitionsFrom}
@@ -30,7 +34,6 @@ use Rattle.tablewriter.proofs.FileLaws.{file-parts}
 use Rattle.tablefile.proofs.TakenLaws.{then-taken, taken-passes}
 use Rattle.tablefile.proofs.Rising.{added-states}
 use Rattle.tablefile.proofs.Filled.{firsts-filled}
-use Rattle.tablefile.proofs.HeaderRecord.{bytesOf, header-back}
 use Rattle.tablefile.proofs.StateRecords.{states-back}
 use Rattle.tablefile.proofs.TransitionRecords.{transitions-back}
 
@@ -42,6 +45,14 @@ end-back text at e = go (ltb at (length text)) refl e
     go : (x : Bool) → ltb at (length text) ≡ x → cond x bytesFollow (cond (ltb mostBytes (length text)) tooLong 0) ≡ 0 → drop at text ≡ []
     go true t r = absurd (omega arith)
     go false t r = drop-of-length-le text (ltb-false at (length text) t)
+
+-- the bytes of the record with the counts of h
+abbrev bytesOf : Header → List ℕ
+bytesOf h = recordBytes columns letterT (h .states ∷ h .starts ∷ h .finals ∷ h .transitions ∷ [])
+
+header-back : (text : List ℕ) → headerOf text .fault ≡ 0 → text ≡ bytesOf (headerOf text) ++ drop headerSize text
+unfolding headerOf recordAt valuesAt
+header-back text e = record-back text 0 letterT headerRanges e .bytes
 
 module _ (text : List ℕ) (h : Header) (c : Counted h) where
   -- the records that gave a set are the ones that are written of it, and are as many
@@ -64,7 +75,7 @@ module _ (text : List ℕ) (h : Header) (c : Counted h) where
   unfolding transitionsFrom blankTransducer transitionBytesBelow
   transitions-same t place rec k e o =
       let few = c .few-transitions in
-      let b = transitions-back text (h .states) (h .transitions) place rec 0 Taken (blankTransducer .transitions) o in
+      let b = transitions-back text (h .states) (h .transitions) place rec 0 Taken (blankTransducer .transitions) (c .some-state) o in
       let same : firsts (t .count) (at t) ≡ b .list =
       rw (k, e, b .stored) (rw (b .size) at (firsts-filled outside clearTransition mostTransitions (b .list) (omega (arith, b .size))))
       in

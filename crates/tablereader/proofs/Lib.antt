@@ -1,6 +1,5 @@
 -- Laws of the definitions, for the crates above.
 pub mod Outcomes
-pub mod Checks
 pub mod Stores
 pub mod HeaderRecord
 pub mod StateRecords

@@ -13,21 +13,22 @@ use Rattle.transducer.specs.Limits.{mostStates}
 use Rattle.transducer.specs.StateSet.{has, In, noStates, withState}
 use Rattle.transducer.specs.declared.StateSet.{StateSet}
 use Rattle.transducer.proofs.Bools.{and-right}
+use Rattle.records.specs.Reading.{valuesAt, recordAt}
+use Rattle.records.specs.declared.reading.Number.{Number}
+use Rattle.records.proofs.RangeLaws.{values-within}
 use Rattle.tablereader.specs.Outcome.{outcomeOf, _▸_}
-use Rattle.tablereader.specs.Record.{stateSize, numberAt}
+use Rattle.tablereader.specs.Record.{stateRanges, stateSize}
 use Rattle.tablereader.specs.States.{stateRecord, readStates, statesFrom}
 use Rattle.tablereader.specs.declared.Outcome.{Outcome}
 use Rattle.tablereader.specs.declared.Outcome.the-variants.{Taken}
-use Rattle.tablereader.specs.declared.record.Number.{Number}
-use Rattle.tablereader.proofs.Checks.{value-high}
 use Rattle.tablereader.proofs.Stores.{after-set}
 
 module _ (text : List ℕ) (letter n at low : ℕ) where
   -- a state that is read is below n, also where its record is refused
   pub state-below : (r : Number) → r ≡ stateRecord text letter n at low → 1 ≤ n → r .value < n
-  unfolding stateRecord
+  unfolding stateRecord recordAt valuesAt
   state-below r e h =
-      let high = value-high text (at + 1) 0 (n - 1) (numberAt text (at + 1) 0 (n - 1)) refl (omega arith) in
+      let high = values-within text (n - 1) (at + 1) (stateRanges n low) (omega arith, omega arith, tt) .0 .1 in
       rw e (omega arith)
 
   module _ (rec : ℕ) (outcome : Outcome) (states : StateSet) where

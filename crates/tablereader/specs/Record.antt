@@ -1,42 +1,37 @@
--- What every record is made of: a letter, fields, and the byte that ends it. The checks of a record stand in a list, from left to right, each as the
--- refusal's number or 0; the first refusal counts.
-use mathlib.Core.Bool.{cond, _&&_}
+-- The records of a table file, described by the ranges of their fields (document 01, "The file"), and their sizes.
 use mathlib.Core.List.{List, [], _∷_}
-use Prim.Native.Nat.{ℕ}
-use lib.Dec.{eqb, leb}
-use Rattle.transducer.specs.Refusals.{ended, notANumber, outOfRange}
-use Rattle.records.specs.Field.{fieldOf}
-use Rattle.records.specs.declared.field.Field.{Field}
-use Rattle.records.specs.declared.field.Field.the-variants.{Value, Ended, NotANumber}
-use Rattle.tablereader.specs.declared.record.Number.{Number}
+use Prim.Native.Nat.{ℕ, _+_, _-_, _*_}
+use lib.ListN.{replicate}
+use Rattle.transducer.specs.Limits.{mostStates, mostTransitions, mostOutputs, mostCode}
+use Rattle.records.specs.Letters.{recordSize, mostFields}
+use Rattle.records.specs.Reading.{range}
+use Rattle.records.specs.declared.reading.Range.{Range}
 
--- the bytes of the header: the letter, four fields and the end
+-- `T`: n; the counts of start states and of final states; k
+abbrev pub headerRanges : List Range
+headerRanges = range 1 mostStates ∷ range 0 mostStates ∷ range 0 mostStates ∷ range 0 mostTransitions ∷ []
+
+-- `S` and `F`: a state of n, which is at least `least`
+abbrev pub stateRanges : ℕ → ℕ → List Range
+stateRanges n least = record { low = 0; high = n - 1; least = least } ∷ []
+
+-- `L`: the state of n that is left, the one that is entered, the input, the count of output codes, and so many output codes
+abbrev pub transitionRanges : ℕ → ℕ → List Range
+transitionRanges n count =
+    range 0 (n - 1) ∷ range 0 (n - 1) ∷ range 0 mostCode ∷ range 0 mostOutputs ∷ replicate count (range 1 mostCode)
+
+-- the bytes of the header
 abbrev pub headerSize : ℕ
-headerSize = 18
+headerSize = recordSize 4
 
--- the bytes of a state's record: the letter, a field and the end
+-- the bytes of a state's record
 abbrev pub stateSize : ℕ
-stateSize = 6
+stateSize = recordSize 1
 
--- the most bytes of a transition's record: the letter, four fields, eight output codes and the end
+-- the most bytes of a transition's record
 abbrev pub transitionSize : ℕ
-transitionSize = 50
+transitionSize = recordSize mostFields
 
--- the most records: the header, 64 states and 256 transitions
+-- the most records: the header, every state as a start state and as a final state, and every transition
 abbrev pub mostRecords : ℕ
-mostRecords = 321
-
--- the first of the faults that is one, or 0
-unfoldable pub firstOf : List ℕ → ℕ
-firstOf [] = 0
-firstOf (fault ∷ faults) = cond (eqb fault 0) (firstOf faults) fault
-
--- a field that must be a number from `low` to `high`; where it is refused its value is `low`
-abbrev pub inRange : Field → ℕ → ℕ → Number
-inRange Ended low high = record { fault = ended; value = low }
-inRange NotANumber low high = record { fault = notANumber; value = low }
-inRange (Value v) low high = cond (leb low v && leb v high) (record { fault = 0; value = v }) (record { fault = outOfRange; value = low })
-
--- the same of the field at a place
-unfoldable pub numberAt : List ℕ → ℕ → ℕ → ℕ → Number
-numberAt text at low high = inRange (fieldOf text at) low high
+mostRecords = 1 + 2 * mostStates + mostTransitions

@@ -1,32 +1,25 @@
 -- The records `S` and `F`: one state each, strictly rising.
-use mathlib.Core.Bool.{cond}
-use mathlib.Core.List.{List, [], _∷_}
-use Prim.Native.Nat.{ℕ, zero, suc, _+_, _-_}
-use lib.Dec.{ltb}
-use Rattle.records.specs.Byte.{byteFault}
-use Rattle.transducer.specs.Refusals.{notRising}
+use mathlib.Core.List.{List}
+use Prim.Native.Nat.{ℕ, zero, suc, _+_}
+use lib.ListN.{getD}
+use Rattle.records.specs.Reading.{recordAt}
+use Rattle.records.specs.declared.reading.Number.{Number}
+use Rattle.records.specs.declared.reading.Record.{Record}
 use Rattle.transducer.specs.StateSet.{noStates, withState}
 use Rattle.transducer.specs.declared.StateSet.{StateSet}
 use Rattle.tablereader.specs.Outcome.{outcomeOf, _▸_}
-use Rattle.tablereader.specs.Record.{stateSize, firstOf, numberAt}
-use Rattle.records.specs.Letters.{recordEnd}
+use Rattle.tablereader.specs.Record.{stateRanges, stateSize}
 use Rattle.tablereader.specs.declared.Outcome.{Outcome}
 use Rattle.tablereader.specs.declared.Outcome.the-variants.{Taken}
-use Rattle.tablereader.specs.declared.record.Number.{Number}
 use Rattle.tablereader.specs.declared.states.States.{States}
 
--- a state must be at least `low`
-unfoldable pub risingFault : ℕ → ℕ → ℕ
-risingFault low state = cond (ltb state low) notRising 0
+-- the state that a record gives, with its fault
+abbrev pub stateOf : Record → Number
+stateOf r = record { fault = r .fault; value = getD (r .values) 0 0 }
 
--- the record at a place: the letter; a state of 0 to n - 1, at least `low`; the end
+-- the record at a place, whose state is below n and at least `low`
 unfoldable pub stateRecord : List ℕ → ℕ → ℕ → ℕ → ℕ → Number
-stateRecord text letter n at low =
-    let state = numberAt text (at + 1) 0 (n - 1) in
-    record {
-      fault = firstOf (byteFault text at letter ∷ state .fault ∷ risingFault low (state .value) ∷ byteFault text (at + 5) recordEnd ∷ []);
-      value = state .value;
-    }
+stateRecord text letter n at low = stateOf (recordAt text at letter (stateRanges n low))
 
 -- so many records from a place, the next of them record `rec`, after an outcome and a set of states; each state is at least `low`, which is one more
 -- than the state before

@@ -1,11 +1,9 @@
 // The first record, `T`: how many states, start states, final states and transitions there are.
 ghost use mathlib.Core.Path.{_≡_};
 ghost use Rattle.tablereader.specs.Header.{headerOf};
-use crate::record;
+use records::reading;
+use records::reading::Range;
 use transducer::limits;
-
-// The bytes of the record: the letter, four fields and the end.
-pub const SIZE: usize = 18;
 
 // The counts that were read, with the refusal's number, 0 where there is none.
 pub struct Header {
@@ -20,25 +18,29 @@ pub struct Header {
 pub fn read_header(text: &[u8]) -> Header
     ensures { λ r. ⌜ r ≡ headerOf (now (text .entry)) ⌝ }
 {
-    let letter = records::field::byte_fault(text, 0, b'T');
-    let states = record::number_at(text, 1, 1, limits::STATES as u16);
-    let starts = record::number_at(text, 5, 0, limits::STATES as u16);
-    let finals = record::number_at(text, 9, 0, limits::STATES as u16);
-    let transitions = record::number_at(text, 13, 0, limits::TRANSITIONS as u16);
-    let end = records::field::byte_fault(text, 17, records::reader::END);
-    let faults = [
-        letter,
-        states.fault,
-        starts.fault,
-        finals.fault,
-        transitions.fault,
-        end,
-    ];
+    let states = limits::STATES as u16;
+    let most = Range {
+        low: 0,
+        high: states,
+        least: 0,
+    };
+    let mut ranges = [most; reading::MOST_FIELDS];
+    ranges[0] = Range {
+        low: 1,
+        high: states,
+        least: 0,
+    };
+    ranges[3] = Range {
+        low: 0,
+        high: limits::TRANSITIONS as u16,
+        least: 0,
+    };
+    let read = reading::read_record(text, 0, b'T', 4, ranges);
     Header {
-        fault: record::first_of(&faults),
-        states: states.value,
-        starts: starts.value,
-        finals: finals.value,
-        transitions: transitions.value,
+        fault: read.fault,
+        states: read.values[0],
+        starts: read.values[1],
+        finals: read.values[2],
+        transitions: read.values[3],
     }
 }

@@ -36,8 +36,8 @@ pub fn read(text: &[u8]) -> Reading
     ensures { λ r. ⌜ r ≡ readOf (now (text .entry)) ⌝ }
 {
     let counts = header::read_header(text);
-    let starts = states::read_states(text, header::SIZE, b'S', counts.states, counts.starts, 1);
-    let finals_at = header::SIZE + states::SIZE * counts.starts as usize;
+    let starts = states::read_states(text, record::HEADER, b'S', counts.states, counts.starts, 1);
+    let finals_at = record::HEADER + record::STATE * counts.starts as usize;
     let finals = states::read_states(
         text,
         finals_at,
@@ -46,7 +46,7 @@ pub fn read(text: &[u8]) -> Reading
         counts.finals,
         1 + counts.starts,
     );
-    let transitions_at = finals_at + states::SIZE * counts.finals as usize;
+    let transitions_at = finals_at + record::STATE * counts.finals as usize;
     let first = 1 + counts.starts + counts.finals;
     let rest = transitions::read_transitions(
         text,

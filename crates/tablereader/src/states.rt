@@ -4,15 +4,13 @@ ghost use Prim.Native.Nat.{_+_, _*_, _≤_};
 ghost use Rattle.transducer.specs.Limits.{mostStates};
 ghost use Rattle.tablereader.specs.Record.{stateSize, mostRecords};
 ghost use Rattle.records.specs.Letters.{mostBytes};
-ghost use Rattle.tablereader.specs.States.{risingFault, stateRecord, statesFrom};
+ghost use Rattle.tablereader.specs.States.{stateRecord, statesFrom};
 use crate::Outcome;
 use crate::record;
-use crate::record::Number;
+use records::reading;
+use records::reading::Number;
+use records::reading::Range;
 use transducer::StateSet;
-use transducer::refusals;
-
-// The bytes of a record: the letter, a field and the end.
-pub const SIZE: usize = 6;
 
 // The states that were read, and whether a record was refused.
 pub struct States {
@@ -35,7 +33,7 @@ pub fn read_states(text: &[u8], start: usize, letter: u8, n: u16, count: u16, fi
         let s = state_record(text, at, letter, n, low);
         outcome = outcome.then(crate::outcome_of(s.fault, rec));
         set = set.with(s.value as u8);
-        at += SIZE;
+        at += record::STATE;
         low = s.value + 1;
         rec += 1;
         left -= 1;
@@ -50,18 +48,15 @@ fn state_record(text: &[u8], at: usize, letter: u8, n: u16, low: u16) -> Number
 {
     let read = records::reader::read_one_field(text, at, letter);
     let field = read.field;
-    let state = record::in_range(field, 0, n - 1);
-    let rising = rising_fault(low, state.value);
-    let faults = [read.letter, state.fault, rising, read.end];
+    let range = Range {
+        low: 0,
+        high: n - 1,
+        least: low,
+    };
+    let state = reading::in_range(field, range);
+    let front = reading::first_fault(read.letter, state.fault);
     Number {
-        fault: record::first_of(&faults),
+        fault: reading::first_fault(front, read.end),
         value: state.value,
     }
-}
-
-// The refusal's number of a state that must be at least `low`.
-fn rising_fault(low: u16, state: u16) -> u8
-    ensures { λ r. ⌜ r ≡ risingFault low state ⌝ }
-{
-    if state < low { refusals::NOT_RISING } else { 0 }
 }

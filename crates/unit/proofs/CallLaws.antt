@@ -9,7 +9,6 @@ use native.Mathlib.Omega.{arith}
 use lib.Dec.{eqb}
 use lib.ListN.{length}
 use Rattle.transducer.specs.Refusals.{tooShort, answerTooShort}
-use Rattle.tablereader.specs.Record.{firstOf}
 use Rattle.tablereader.proofs.Validity.{read-accepted}
 use Rattle.witness.specs.Showing.{Buffers}
 use Rattle.functionality.specs.Decided.{fullOf, refusalOf}
@@ -19,7 +18,7 @@ use Rattle.engine.specs.declared.Judgement.{Judgement}
 use Rattle.engine.specs.declared.FileTranslation.{FileTranslation}
 use Rattle.answers.specs.Answers.{refusalCode, fileCode, numbersOf, Given}
 use Rattle.answers.specs.Answers.{verdictAnswer, translateAnswer}
-use Rattle.unit.specs.Calls.{verdictCode, VerdictGiven, translateCode, TranslationGiven}
+use Rattle.unit.specs.Calls.{firstOf, verdictCode, VerdictGiven, translateCode, TranslationGiven}
 use Rattle.unit.proofs.Codes.{this-one, none-then, only-one, room, no-room, no-record, code-zero, taken-code, code-taken}
 
 -- ---- the verdict

@@ -9,11 +9,11 @@ use borrow.Author.Tests.{eq-eqb, ne-eqb, lt-ltb, le-ltb}
 use lib.ListN.{length}
 use Rattle.tablereader.specs.Outcome as outcome
 use Rattle.tablereader.specs.Reader.{readOf}
-use Rattle.tablereader.specs.Record.{firstOf}
 use Rattle.tablereader.specs.declared.Reading.{Reading}
 use Rattle.tablereader.proofs.Outcomes.{taken-number}
 use Rattle.engine.specs.Engine.{Taken}
 use Rattle.answers.specs.Answers.{refusalCode, fileCode, roomFault}
+use Rattle.unit.specs.Calls.{firstOf}
 
 -- ---- the first refusal
 

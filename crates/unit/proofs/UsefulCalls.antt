@@ -10,7 +10,6 @@ use Rattle.transducer.specs.Limits.{mostStates}
 use Rattle.transducer.specs.Refusals.{tooShort, answerTooShort}
 use Rattle.transducer.specs.Useful.{UsefulPair}
 use Rattle.transducer.proofs.StateSetLaws.{has-below}
-use Rattle.tablereader.specs.Record.{firstOf}
 use Rattle.tablereader.specs.Reader.{readOf}
 use Rattle.tablereader.specs.declared.Reading.{Reading}
 use Rattle.tablereader.proofs.Validity.{read-accepted}
@@ -25,7 +24,7 @@ use Rattle.functionality.proofs.VerdictLaws.{counted}
 use Rattle.engine.specs.Engine.{tableOf}
 use Rattle.answers.specs.Answers.{fileCode, flagOf}
 use Rattle.answers.specs.Answers.{pairsAnswer}
-use Rattle.unit.specs.Calls.{Flagged, statesCode, StatesGiven, pairsCode, PairsGiven}
+use Rattle.unit.specs.Calls.{firstOf, Flagged, statesCode, StatesGiven, pairsCode, PairsGiven}
 use Rattle.unit.proofs.Codes.{this-one, none-then, no-more, room, no-room}
 
 -- ---- useful states

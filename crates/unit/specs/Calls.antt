@@ -5,13 +5,13 @@ use mathlib.Core.Bool.{Bool, true, false, cond}
 use mathlib.Core.List.{List, [], _∷_, map}
 use mathlib.Core.Logic.{_≢_, _↔_}
 use Prim.Native.Nat.{ℕ, _≤_, _<_}
+use lib.Dec.{eqb}
 use lib.ListN.{length, getD}
 use Rattle.words.specs.Difference.{sharedOf, differenceOf}
 use Rattle.buffers.specs.Put.{put}
 use Rattle.transducer.specs.Limits.{mostStates}
 use Rattle.transducer.specs.Refusals.{tooShort, answerTooShort}
 use Rattle.transducer.specs.Useful.{UsefulState, UsefulPair}
-use Rattle.tablereader.specs.Record.{firstOf}
 use Rattle.product.specs.Numbers as pair
 use Rattle.product.specs.Numbers.{mostPairs}
 use Rattle.witness.specs.Showing.{Buffers}
@@ -21,6 +21,11 @@ use Rattle.engine.specs.declared.Judgement.{Judgement}
 use Rattle.engine.specs.declared.FileTranslation.{FileTranslation}
 use Rattle.answers.specs.Answers.{refusalCode, fileCode, roomFault, flagOf, kindOf, numbersOf}
 use Rattle.answers.specs.Answers.{verdictAnswer, translateAnswer, pairsAnswer, differenceAnswer, writeAnswer}
+
+-- the first of the faults that is one, or 0
+unfoldable pub firstOf : List ℕ → ℕ
+firstOf [] = 0
+firstOf (fault ∷ faults) = cond (eqb fault 0) (firstOf faults) fault
 
 -- Each record says the same three things: what is returned, that a refusal (not 0) changes nothing that is lent, and what is done where 0 is
 -- returned.

@@ -7,16 +7,40 @@ use borrow.Author.Tests.{eq-eqb, ne-eqb}
 use denote.Ref.{now}
 use Rattle.tablereader.specs.Header.{headerOf}
 use Rattle.tablereader.specs.Reader.{startsOf, finalsOf, transitionsOf, outcomeWith, tableWith, readOf}
-use Rattle.tablereader.proofs.HeaderRecord.{counted}
+use Rattle.tablereader.proofs.HeaderRecord.{Counted, counted}
 use borrow.Author.Needs.{needs}
 use Rattle.tablereader.proofs.read.Statement.{statement}
 use Rattle.tablereader.proofs.read.Tie as tie
+
+-- the places behind the calls, from the last back to the first
+abbrev header-checked : tie.After-then4 → tie.After-outcome-of
+header-checked c = c .before .before .before .before .before .before
+
+abbrev transitions-read : tie.After-outcome-of → tie.After-read-transitions
+transitions-read c = c .before .before
+
+abbrev finals-read : tie.After-read-transitions → tie.After-read-states2
+finals-read c = c .before .before .before .before
+
+abbrev starts-read : tie.After-read-states2 → tie.After-read-states
+starts-read c = c .before .before .before
+
+abbrev header-read : tie.After-read-states → tie.After-read-header
+header-read c = c .before
+
+-- the header's call, from behind all calls
+abbrev first-call : tie.After-outcome-of → tie.After-read-header
+first-call c = header-read (starts-read (finals-read (transitions-read c)))
+
+-- the counts are in their ranges
+counts : (c : tie.After-read-header) → Counted (c .read-header .result)
+counts c = counted _ _ (c .read-header .ensures)
 
 read-header-requires : tie.Need-read-header-requires
 read-header-requires c κs = search needs
 
 read-states-requires : tie.Need-read-states-requires
-read-states-requires c κs = let h = counted _ _ (c .read-header .ensures) in search needs
+read-states-requires c κs = let h = counts c in search needs
 
 cast-finals-at : tie.Need-cast-finals-at
 cast-finals-at c = search needs
@@ -28,10 +52,10 @@ add-finals-at : tie.Need-add-finals-at
 add-finals-at c = search needs
 
 add-read-states : tie.Need-add-read-states
-add-read-states c = let h = counted _ _ (c .before .before .before .read-header .ensures) in omega arith
+add-read-states c = let h = counts (header-read (c .before .before)) in omega arith
 
 read-states-requires-2 : tie.Need-read-states-requires-2
-read-states-requires-2 c κs = let h = counted _ _ (c .before .before .before .read-header .ensures) in search needs
+read-states-requires-2 c κs = let h = counts (header-read (c .before .before)) in search needs
 
 cast-transitions-at : tie.Need-cast-transitions-at
 cast-transitions-at c = search needs
@@ -43,13 +67,13 @@ add-transitions-at : tie.Need-add-transitions-at
 add-transitions-at c = search needs
 
 add-first : tie.Need-add-first
-add-first c = let h = counted _ _ (c .before .before .before .before .before .before .read-header .ensures) in omega arith
+add-first c = let h = counts (header-read (starts-read (c .before .before))) in omega arith
 
 add-first-2 : tie.Need-add-first-2
-add-first-2 c = let h = counted _ _ (c .before .before .before .before .before .before .before .read-header .ensures) in omega arith
+add-first-2 c = let h = counts (header-read (starts-read (c .before .before .before))) in omega arith
 
 read-transitions-requires : tie.Need-read-transitions-requires
-read-transitions-requires c κs = let h = counted _ _ (c .before .before .before .before .before .before .before .read-header .ensures) in search needs
+read-transitions-requires c κs = let h = counts (header-read (starts-read (c .before .before .before))) in search needs
 
 end-fault-requires : tie.Need-end-fault-requires
 end-fault-requires c κs = search needs
@@ -58,7 +82,7 @@ outcome-of-requires : tie.Need-outcome-of-requires
 outcome-of-requires c κs = search needs
 
 add-outcome-of : tie.Need-add-outcome-of
-add-outcome-of c = let h = counted _ _ (c .before .before .before .before .before .before .before .before .before .before .before .read-header .ensures) in omega arith
+add-outcome-of c = let h = counts (first-call (c .before)) in omega arith
 
 outcome-of-requires-2 : tie.Need-outcome-of-requires-2
 outcome-of-requires-2 c κs = search needs
@@ -79,48 +103,50 @@ number-requires : tie.Need-number-requires
 number-requires c κs = search needs
 
 cast-t28 : tie.Need-cast-t28
-cast-t28 c = let h = counted _ _ (c .before .before .before .before .before .before .before .before .before .before .before .before .before .before .before .before .before .before .before .before .before .before .read-header .ensures) in omega arith
+cast-t28 c = let h = counts (first-call (header-checked (c .before .before .before .before .before .before))) in omega arith
 
 blank-requires : tie.Need-blank-requires
 blank-requires c κs = search needs
 
 abbrev text-of : tie.After-then4 → List ℕ
-text-of c = now (c .before .before .before .before .before .before .before .before .before .before .before .before .before .before .before .before .before .before .args .text)
+text-of c = now (first-call (header-checked c) .before .before .args .text)
 
 -- the outcome is that of the definition
 outcome-read : (c : tie.After-then4) → c .then4 .result ≡ outcomeWith (text-of c) (headerOf (text-of c))
 unfolding outcomeWith startsOf finalsOf transitionsOf
 outcome-read c =
-    let calls = c .before .before .before .before .before .before in
-    rw (← calls .before .before .before .before .before .before .before .before .before .before .read-header .ensures)
+    let checked = header-checked c in
+    let calls = transitions-read checked in
+    rw (← first-call checked .read-header .ensures)
     (simp (
       c .then4 .ensures,
       c .before .then3 .ensures,
       c .before .before .then2 .ensures,
       c .before .before .before .then .ensures,
       c .before .before .before .before .outcome-of2 .ensures,
-      calls .outcome-of .ensures,
-      calls .before .end-fault .ensures,
-      calls .before .before .read-transitions .ensures,
-      calls .before .before .before .before .before .before .read-states2 .ensures,
-      calls .before .before .before .before .before .before .before .before .before .read-states .ensures,
+      checked .outcome-of .ensures,
+      checked .before .end-fault .ensures,
+      calls .read-transitions .ensures,
+      finals-read calls .read-states2 .ensures,
+      starts-read (finals-read calls) .read-states .ensures,
     ))
 
 returns : tie.Need-returns
 unfolding readOf tableWith startsOf finalsOf transitionsOf
 returns c =
     let number = c .before .before .before .before .before in
-    let calls = number .before .before .before .before .before .before .before .before .before in
+    let checked = header-checked (number .before) in
+    let calls = transitions-read checked in
     rw (
       ← outcome-read (number .before),
       ← number .number .ensures,
       eq-eqb _ _ (c .before .before .before .before .if1 .taken),
-      ← calls .before .before .before .before .before .before .before .before .read-header .ensures,
+      ← first-call checked .read-header .ensures,
     )
     (simp (
       calls .read-transitions .ensures,
-      calls .before .before .before .before .read-states2 .ensures,
-      calls .before .before .before .before .before .before .before .read-states .ensures,
+      finals-read calls .read-states2 .ensures,
+      starts-read (finals-read calls) .read-states .ensures,
     ))
 
 returns-2 : tie.Need-returns-2

@@ -14,6 +14,17 @@ use Rattle.records.proofs.field.add_column.Tie as tie
 added : {p p' : Part} {K k k' : Column} → k ≡ K → p ≡ p' → k ≡ k' → addTo p' k' ≡ addTo p K
 added e ep ek = cc
 
+-- the column's class, from the arm of a blank part and from that of a number
+abbrev blank : tie.After-enum-told → tie.After-classify
+blank c = c .before .before
+
+abbrev number : tie.After-p → tie.After-classify
+number c = c .before .before
+
+-- the number so far, where a digit follows it
+abbrev so-far : tie.After-known-told3 → tie.After-p
+so-far c = c .before .before .before .before
+
 classify-requires : tie.Need-classify-requires
 classify-requires c κs = search needs
 
@@ -38,9 +49,9 @@ enum-known-p c = search needs
 enum-known-c-2 : tie.Need-enum-known-c-2
 enum-known-c-2 c = search needs
 
--- the number so far, which the contract bounds
-small : (c : tie.Else1) → c .before .before .before .before .before .p .given .0 .0 < 1000
-small c = subst (Under 1000) (c .before .before .before .before .before .p .given .1) (c .before .before .before .before .before .before .before .before .pre)
+-- it is bounded by the contract
+small : (c : tie.Else1) → so-far (c .before) .p .given .0 .0 < 1000
+small c = let p = so-far (c .before) in subst (Under 1000) (p .p .given .1) (number p .before .pre)
 
 mul-t13 : tie.Need-mul-t13
 mul-t13 c = omega (arith, small c)
@@ -63,39 +74,39 @@ enum-told-6 c = search needs
 returns : tie.Need-returns
 unfolding addColumn
 returns c =
-    added (c .before .before .before .before .classify .ensures) (c .before .before .enum-told .given .1) (c .enum-told2 .given .1)
+    added (blank (c .before .before) .classify .ensures) (c .before .before .enum-told .given .1) (c .enum-told2 .given .1)
 
 returns-2 : tie.Need-returns-2
 unfolding addColumn
 returns-2 c =
-    added (c .before .before .before .before .before .classify .ensures) (c .before .before .before .enum-told .given .1) (c .before .c .given .1)
+    added (blank (c .before .before .before) .classify .ensures) (c .before .before .before .enum-told .given .1) (c .before .c .given .1)
 
 returns-3 : tie.Need-returns-3
 unfolding addColumn
 returns-3 c =
-    added (c .before .before .before .before .classify .ensures) (c .before .before .enum-told .given .1) (c .enum-told3 .given .1)
+    added (blank (c .before .before) .classify .ensures) (c .before .before .enum-told .given .1) (c .enum-told3 .given .1)
 
 returns-4 : tie.Need-returns-4
 unfolding addColumn
 returns-4 c =
     simp (eq-eqb _ _ (c .if1 .taken)) at
-    (added (c .before .before .before .before .before .before .before .classify .ensures) (c .before .before .before .before .before .p .given .1) (c .before .before .c2 .given .1))
+    (let p = so-far (c .before) in added (number p .classify .ensures) (p .p .given .1) (c .before .before .c2 .given .1))
 
 returns-5 : tie.Need-returns-5
 unfolding addColumn
 returns-5 c =
     simp (ne-eqb _ _ (c .if1 .left)) at
-    (added (c .before .before .before .before .before .before .before .classify .ensures) (c .before .before .before .before .before .p .given .1) (c .before .before .c2 .given .1))
+    (let p = so-far (c .before) in added (number p .classify .ensures) (p .p .given .1) (c .before .before .c2 .given .1))
 
 returns-6 : tie.Need-returns-6
 unfolding addColumn
 returns-6 c =
-    added (c .before .before .before .before .before .classify .ensures) (c .before .before .before .p .given .1) (c .enum-told4 .given .1)
+    added (number (c .before .before .before) .classify .ensures) (c .before .before .before .p .given .1) (c .enum-told4 .given .1)
 
 returns-7 : tie.Need-returns-7
 unfolding addColumn
 returns-7 c =
-    added (c .before .before .before .before .before .classify .ensures) (c .before .before .before .p .given .1) (c .enum-told5 .given .1)
+    added (number (c .before .before .before) .classify .ensures) (c .before .before .before .p .given .1) (c .enum-told5 .given .1)
 
 returns-8 : tie.Need-returns-8
 unfolding addColumn

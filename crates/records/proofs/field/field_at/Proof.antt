@@ -76,13 +76,20 @@ add-column-requires-4 c κs =
     rw (c .before .add-column3 .ensures, c .before .before .before .add-column2 .ensures, c .before .before .before .before .before .add-column .ensures)
     (part-under (_ ∷ _ ∷ _ ∷ []) 1000 (omega arith))
 
+-- the call for the first column, from behind the last
+abbrev first-added : tie.After-add-column4 → tie.After-add-column
+first-added c = c .before .before .before .before .before .before
+
+abbrev entry : tie.After-add-column → tie.Start
+entry c = c .before .before .before .before .before
+
 field-of-part-requires : tie.Need-field-of-part-requires
 field-of-part-requires c κs = search needs
 
 returns-3 : tie.Need-returns-3
 unfolding fieldOf
 returns-3 c =
-    let a = c .before .before .before .before .before .before .before .before .before .before .before .before .args in
+    let a = entry (first-added (c .before)) .args in
     let inside : a .at + columns ≤ length (now (a .text)) = omega arith in
     simp (le-leb _ _ inside, four-bytes (now (a .text)) (a .at) inside) (cc)
 

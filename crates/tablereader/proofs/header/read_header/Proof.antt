@@ -1,72 +1,52 @@
--- `read_header` meets its contract: it is the definition, with what the calls ensure. Assumes nothing.
+-- `read_header` meets its contract: it is the definition, with what the call ensures. Assumes nothing.
+use mathlib.Core.Path.{ap}
 use borrow.Author.Needs.{needs}
-use Rattle.tablereader.specs.Header.{headerOf}
+use Rattle.tablereader.specs.Header.{countsOf, headerOf}
 use Rattle.tablereader.proofs.header.read_header.Statement.{statement}
 use Rattle.tablereader.proofs.header.read_header.Tie as tie
 
-byte-fault-requires : tie.Need-byte-fault-requires
-byte-fault-requires c κs = search needs
+cast-states : tie.Need-cast-states
+cast-states c = search needs
 
-cast-number-at : tie.Need-cast-number-at
-cast-number-at c = search needs
+array-set-from-ranges : tie.Need-array-set-from-ranges
+array-set-from-ranges c = search needs
 
-number-at-requires : tie.Need-number-at-requires
-number-at-requires c κs = search needs
+cast-t9 : tie.Need-cast-t9
+cast-t9 c = search needs
 
-cast-number-at-2 : tie.Need-cast-number-at-2
-cast-number-at-2 c = search needs
+array-set-from-ranges-2 : tie.Need-array-set-from-ranges-2
+array-set-from-ranges-2 c = search needs
 
-number-at-requires-2 : tie.Need-number-at-requires-2
-number-at-requires-2 c κs = search needs
+read-record-requires : tie.Need-read-record-requires
+read-record-requires c κs = search needs
 
-cast-number-at-3 : tie.Need-cast-number-at-3
-cast-number-at-3 c = search needs
+element-copy-out-t9 : tie.Need-element-copy-out-t9
+element-copy-out-t9 c = search needs
 
-number-at-requires-3 : tie.Need-number-at-requires-3
-number-at-requires-3 c κs = search needs
+element-copy-out-t19 : tie.Need-element-copy-out-t19
+element-copy-out-t19 c = search needs
 
-cast-number-at-4 : tie.Need-cast-number-at-4
-cast-number-at-4 c = search needs
+element-copy-out-t22 : tie.Need-element-copy-out-t22
+element-copy-out-t22 c = search needs
 
-number-at-requires-4 : tie.Need-number-at-requires-4
-number-at-requires-4 c κs = search needs
-
-byte-fault-requires-2 : tie.Need-byte-fault-requires-2
-byte-fault-requires-2 c κs = search needs
-
-slice-aggregate-first-of : tie.Need-slice-aggregate-first-of
-slice-aggregate-first-of c = search needs
-
-first-of-requires : tie.Need-first-of-requires
-first-of-requires c κs = search needs
+element-copy-out-t25 : tie.Need-element-copy-out-t25
+element-copy-out-t25 c = search needs
 
 returns : tie.Need-returns
 unfolding headerOf
-returns c =
-    simp (
-      c .first-of .ensures,
-      c .before .before .byte-fault2 .ensures,
-      c .before .before .before .number-at4 .ensures,
-      c .before .before .before .before .number-at3 .ensures,
-      c .before .before .before .before .before .number-at2 .ensures,
-      c .before .before .before .before .before .before .number-at .ensures,
-      c .before .before .before .before .before .before .before .byte-fault .ensures,
-    )
+returns c = ap countsOf (c .before .before .before .before .read-record .ensures)
 
 pub read-header-spec : {M : Type 1} → statement M
 read-header-spec =
     tie.close
     (tie.spec
-    byte-fault-requires
-    cast-number-at
-    number-at-requires
-    cast-number-at-2
-    number-at-requires-2
-    cast-number-at-3
-    number-at-requires-3
-    cast-number-at-4
-    number-at-requires-4
-    byte-fault-requires-2
-    slice-aggregate-first-of
-    first-of-requires
+    cast-states
+    array-set-from-ranges
+    cast-t9
+    array-set-from-ranges-2
+    read-record-requires
+    element-copy-out-t9
+    element-copy-out-t19
+    element-copy-out-t22
+    element-copy-out-t25
     returns)

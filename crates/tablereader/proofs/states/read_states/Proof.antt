@@ -17,6 +17,10 @@ Inv-loop text start letter n count first outcome₀ set₀ at₀ low₀ rec₀ l
 abbrev μ-loop : tie.MeasureT-loop
 μ-loop text start letter n count first outcome₀ set₀ at₀ low₀ rec₀ left₀ outcome set at low rec left = left
 
+-- the entry, from the body of the loop
+abbrev entry : tie.In-loop Inv-loop μ-loop → tie.Start Inv-loop μ-loop
+entry c = c .before .before .before .before
+
 empty-requires : tie.Need-empty-requires Inv-loop μ-loop
 empty-requires c κs = search needs
 
@@ -35,8 +39,7 @@ then-requires c κs = search needs
 
 cast-with : tie.Need-cast-with Inv-loop μ-loop
 cast-with c =
-    let s = c .before .before .before .before .before .before .before .before in
-    omega (arith, state-below _ _ _ _ _ _ (c .before .before .before .state-record .ensures) (s .pre .1))
+    omega (arith, state-below _ _ _ _ _ _ (c .before .before .before .state-record .ensures) (entry (c .before .before .before .before) .pre .1))
 
 with-requires : tie.Need-with-requires Inv-loop μ-loop
 with-requires c κs = search needs
@@ -46,8 +49,8 @@ add-at c = search needs
 
 add-low : tie.Need-add-low Inv-loop μ-loop
 add-low c =
-    let s = c .before .before .before .before .before .before .before .before .before .before in
-    omega (arith, state-below _ _ _ _ _ _ (c .before .before .before .before .before .state-record .ensures) (s .pre .1))
+    let turn = c .before .before .before .before .before in
+    omega (arith, state-below _ _ _ _ _ _ (turn .state-record .ensures) (entry (turn .before) .pre .1))
 
 add-rec : tie.Need-add-rec Inv-loop μ-loop
 add-rec c = search needs

@@ -6,7 +6,7 @@ use native.Mathlib.Omega.{arith}
 use borrow.Author.Needs.{needs}
 use Rattle.tablereader.specs.Record.{transitionSize}
 use Rattle.tablereader.specs.Transitions.{readTransitions, transitionsFrom}
-use Rattle.tablereader.proofs.TransitionRecords.{transition-next, transition-turn, transitions-done}
+use Rattle.tablereader.proofs.TransitionRecords.{transition-turn, transitions-done, transition-next, transition-small}
 use Rattle.tablereader.proofs.transitions.read_transitions.Statement.{statement}
 use Rattle.tablereader.proofs.transitions.read_transitions.Tie as tie
 
@@ -17,6 +17,10 @@ Inv-loop text start n count first outcome₀ transitions₀ at₀ rec₀ i₀ le
 
 abbrev μ-loop : tie.MeasureT-loop
 μ-loop text start n count first outcome₀ transitions₀ at₀ rec₀ i₀ left₀ outcome transitions at rec i left = left
+
+-- the entry, from the body of the loop
+abbrev entry : tie.In-loop Inv-loop μ-loop → tie.Start Inv-loop μ-loop
+entry c = c .before .before .before .before .before
 
 blank-requires : tie.Need-blank-requires Inv-loop μ-loop
 blank-requires c κs = search needs
@@ -33,6 +37,10 @@ outcome-of-requires c κs = search needs
 
 then-requires : tie.Need-then-requires Inv-loop μ-loop
 then-requires c κs = search needs
+
+transition-of-requires : tie.Need-transition-of-requires Inv-loop μ-loop
+transition-of-requires c κs =
+    transition-small _ _ _ (entry (c .before .before .before .before) .pre .0 .2) _ (c .before .before .before .transition-record .ensures)
 
 mul-transitions : tie.Need-mul-transitions Inv-loop μ-loop
 mul-transitions c = search needs
@@ -54,9 +62,11 @@ loop-less c = search needs
 
 loop-again : tie.Need-loop-again Inv-loop μ-loop
 loop-again c =
-    let turn = c .before .before .before .before in
-    let read = c .before .before .before .transition-record .ensures in (
-      sym (transition-turn _ _ _ _ _ _ _ _ _ _ _ (turn .loop-test .taken) read (c .before .before .outcome-of .ensures) (c .before .then .ensures))
+    let turn = c .before .before .before .before .before in
+    let read = c .before .before .before .before .transition-record .ensures in (
+      sym
+          (transition-turn _ _ _ _ _ _ _ _ _ _ _ _ (turn .loop-test .taken) read (c .before .before .before .outcome-of .ensures)
+          (c .before .before .then .ensures) (c .transition-of .ensures))
           ∙ turn .before .loop .inv .0,
       omega (arith, transition-next _ _ _ _ read),
       omega arith,
@@ -77,6 +87,7 @@ read-transitions-spec =
     transition-record-requires
     outcome-of-requires
     then-requires
+    transition-of-requires
     mul-transitions
     array-set-from-transitions
     add-rec

@@ -1,160 +1,83 @@
--- `transition_record` meets its contract: it is the definition, with what the calls ensure. Assumes nothing.
+-- `transition_record` meets its contract: the ranges that are lent, as many as the count asks for, are those of the definition. Assumes nothing.
+use mathlib.Core.Path.{ap, _∙_}
 use native.Mathlib.Omega.{arith}
 use borrow.Author.Needs.{needs}
+use denote.Ref.{now}
+use Rattle.records.specs.Letters.{letterL}
+use Rattle.records.specs.Reading.{recordAt}
+use Rattle.records.proofs.RangeLaws.{number-within}
 use Rattle.tablereader.specs.Transitions.{transitionRecord}
-use Rattle.tablereader.proofs.Checks.{value-high}
+use Rattle.tablereader.proofs.TransitionRecords.{ranges-taken}
 use Rattle.tablereader.proofs.transitions.transition_record.Statement.{statement}
 use Rattle.tablereader.proofs.transitions.transition_record.Tie as tie
 
--- the places behind the reading: after each call, from the one that finds the first fault back to the entry
-abbrev checked : tie.After-struct-known5 → tie.After-first-of
-checked c = c .before .before .before .before
+cast-code : tie.Need-cast-code
+cast-code c = search needs
 
-abbrev count-read : tie.After-first-of → tie.After-number-at4
-count-read c = c .before .before .before .before .before .before
+sub-t11 : tie.Need-sub-t11
+sub-t11 c = search needs
 
-abbrev input-read : tie.After-first-of → tie.After-number-at3
-input-read c = count-read c .before
-
-abbrev to-read : tie.After-first-of → tie.After-number-at2
-to-read c = input-read c .before
-
-abbrev from-read : tie.After-first-of → tie.After-number-at
-from-read c = to-read c .before
-
-abbrev letter-read : tie.After-first-of → tie.After-byte-fault
-letter-read c = from-read c .before
-
-abbrev entry : tie.After-first-of → tie.Start
-entry c = letter-read c .before .before
-
-byte-fault-requires : tie.Need-byte-fault-requires
-byte-fault-requires c κs = search needs
+cast-t11 : tie.Need-cast-t11
+cast-t11 c = search needs
 
 add-number-at : tie.Need-add-number-at
 add-number-at c = search needs
 
-sub-number-at : tie.Need-sub-number-at
-sub-number-at c = search needs
-
-number-at-requires : tie.Need-number-at-requires
-number-at-requires c κs = search needs
+mul-number-at : tie.Need-mul-number-at
+mul-number-at c = search needs
 
 add-number-at-2 : tie.Need-add-number-at-2
 add-number-at-2 c = search needs
 
-sub-number-at-2 : tie.Need-sub-number-at-2
-sub-number-at-2 c = search needs
+number-at-requires : tie.Need-number-at-requires
+number-at-requires c κs = search needs
 
-number-at-requires-2 : tie.Need-number-at-requires-2
-number-at-requires-2 c κs = search needs
+array-set-from-ranges : tie.Need-array-set-from-ranges
+array-set-from-ranges c = search needs
 
-add-number-at-3 : tie.Need-add-number-at-3
-add-number-at-3 c = search needs
+array-set-from-ranges-2 : tie.Need-array-set-from-ranges-2
+array-set-from-ranges-2 c = search needs
 
-cast-number-at : tie.Need-cast-number-at
-cast-number-at c = search needs
+array-set-from-ranges-3 : tie.Need-array-set-from-ranges-3
+array-set-from-ranges-3 c = search needs
 
-number-at-requires-3 : tie.Need-number-at-requires-3
-number-at-requires-3 c κs = search needs
+array-set-from-ranges-4 : tie.Need-array-set-from-ranges-4
+array-set-from-ranges-4 c = search needs
 
-add-number-at-4 : tie.Need-add-number-at-4
-add-number-at-4 c = search needs
+cast-read-record : tie.Need-cast-read-record
+cast-read-record c = search needs
 
-cast-number-at-2 : tie.Need-cast-number-at-2
-cast-number-at-2 c = search needs
+add-read-record : tie.Need-add-read-record
+add-read-record c = search needs
 
-number-at-requires-4 : tie.Need-number-at-requires-4
-number-at-requires-4 c κs = search needs
-
-add-read-outputs : tie.Need-add-read-outputs
-add-read-outputs c = search needs
-
-read-outputs-requires : tie.Need-read-outputs-requires
-read-outputs-requires c κs =
-    let few = value-high _ _ _ _ _ (c .number-at4 .ensures) (omega arith) in
-    (omega arith, few)
-
-add-last : tie.Need-add-last
-add-last c = search needs
-
-cast-last : tie.Need-cast-last
-cast-last c = search needs
-
-mul-last : tie.Need-mul-last
-mul-last c = search needs
-
-add-last-2 : tie.Need-add-last-2
-add-last-2 c = search needs
-
-byte-fault-requires-2 : tie.Need-byte-fault-requires-2
-byte-fault-requires-2 c κs = search needs
-
-slice-aggregate-first-of : tie.Need-slice-aggregate-first-of
-slice-aggregate-first-of c = search needs
-
-first-of-requires : tie.Need-first-of-requires
-first-of-requires c κs = search needs
-
-add-t14 : tie.Need-add-t14
-add-t14 c = search needs
-
-cast-t21 : tie.Need-cast-t21
-cast-t21 c = omega (arith, value-high _ _ _ _ _ (from-read (c .before) .number-at .ensures) (omega arith))
-
-cast-t22 : tie.Need-cast-t22
-cast-t22 c =
-    omega (arith, value-high _ _ _ _ _ (to-read (c .before .before) .number-at2 .ensures) (omega arith), entry (c .before .before) .pre .2)
-
-cast-t23 : tie.Need-cast-t23
-cast-t23 c = omega (arith, value-high _ _ _ _ _ (input-read (c .before .before .before) .number-at3 .ensures) (omega arith))
-
-cast-t25 : tie.Need-cast-t25
-cast-t25 c = omega (arith, value-high _ _ _ _ _ (count-read (checked c) .number-at4 .ensures) (omega arith))
+read-record-requires : tie.Need-read-record-requires
+read-record-requires c κs =
+    let few = number-within _ _ _ _ (c .before .number-at .ensures) (omega arith) .1 in
+    (omega arith, omega arith)
 
 returns : tie.Need-returns
 unfolding transitionRecord
 returns c =
-    simp (
-      c .before .before .before .before .first-of .ensures,
-      c .before .before .before .before .before .before .before .byte-fault2 .ensures,
-      c .before .before .before .before .before .before .before .before .before .read-outputs .ensures,
-      c .before .before .before .before .before .before .before .before .before .before .number-at4 .ensures,
-      c .before .before .before .before .before .before .before .before .before .before .before .number-at3 .ensures,
-      c .before .before .before .before .before .before .before .before .before .before .before .before .number-at2 .ensures,
-      c .before .before .before .before .before .before .before .before .before .before .before .before .before .number-at .ensures,
-      c .before .before .before .before .before .before .before .before .before .before .before .before .before .before .byte-fault .ensures,
-    )
+    let a = c .before .before .before .before .args in
+    c .read-record .ensures
+    ∙ ap (recordAt (now (a .text)) (a .at) letterL) (ranges-taken (now (a .text)) (a .at) (a .n) _ (c .before .before .number-at .ensures))
 
 pub transition-record-spec : {M : Type 1} → statement M
 transition-record-spec =
     tie.close
     (tie.spec
-    byte-fault-requires
+    cast-code
+    sub-t11
+    cast-t11
     add-number-at
-    sub-number-at
-    number-at-requires
+    mul-number-at
     add-number-at-2
-    sub-number-at-2
-    number-at-requires-2
-    add-number-at-3
-    cast-number-at
-    number-at-requires-3
-    add-number-at-4
-    cast-number-at-2
-    number-at-requires-4
-    add-read-outputs
-    read-outputs-requires
-    add-last
-    cast-last
-    mul-last
-    add-last-2
-    byte-fault-requires-2
-    slice-aggregate-first-of
-    first-of-requires
-    add-t14
-    cast-t21
-    cast-t22
-    cast-t23
-    cast-t25
+    number-at-requires
+    array-set-from-ranges
+    array-set-from-ranges-2
+    array-set-from-ranges-3
+    array-set-from-ranges-4
+    cast-read-record
+    add-read-record
+    read-record-requires
     returns)
