@@ -18,7 +18,7 @@ use Rattle.transducer.proofs.FunctionalLaws.{functional-paths, witness-refutes}
 use Rattle.transducer.proofs.AlikeLaws.{alike-functional}
 use Rattle.tablereader.proofs.Validity.{read-valid, read-accepted}
 use Rattle.wordsearch.specs.Limits.{mostWord}
-use Rattle.translator.proofs.TranslationLaws as translation
+use Rattle.translator.proofs.AlikeTranslated as translation
 use Rattle.translator.proofs.TranslationLaws.{gives-the-output}
 use Rattle.witness.specs.Showing.{Buffers, Showing}
 use Rattle.witness.specs.declared.Counts.{Counts}

@@ -20,7 +20,8 @@ use Rattle.tablereader.proofs.Validity.{read-accepted}
 use Rattle.translator.specs.Numbers as translation
 use Rattle.translator.specs.Translated.{Translated}
 use Rattle.translator.specs.declared.Translation.{Translation}
-use Rattle.translator.proofs.TranslationLaws.{refused-length, translated-determined, alike-refuses}
+use Rattle.translator.proofs.TranslationLaws.{refused-length, translated-determined}
+use Rattle.translator.proofs.AlikeTranslated.{alike-refuses}
 use Rattle.witness.specs.Showing.{Buffers}
 use Rattle.functionality.specs.Decided as verdict
 use Rattle.functionality.specs.Decided.{verdictOf, Decided}

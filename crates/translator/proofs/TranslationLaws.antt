@@ -1,14 +1,14 @@
--- What the translator's contract says of any answer that meets it: on a functional transducer it determines the answer and the buffer, with 65,528
--- places 7 is never given, and transducers that are alike are answered alike. Assumes nothing.
+-- What the translator's contract determines: on a functional transducer the answer and the buffer, and with 65,528 places that the output is the one
+-- output of the word. Assumes nothing.
 use mathlib.Core.Path.{_≡_, refl, sym, ap, _∙_}
-use mathlib.Core.Bool.{Bool, true, false, cond}
+use mathlib.Core.Bool.{true, cond}
 use mathlib.Core.List.{List, []}
-use mathlib.Core.Logic.{_≢_, _↔_}
+use mathlib.Core.Logic.{_≢_}
 use Prim.Native.Nat.{ℕ, _≤_, _<_}
 use native.Mathlib.Decide.{ℕ-discrete}
 use native.Mathlib.Omega.{arith}
 use borrow.Author.Tests.{le-leb}
-use lib.Dec.{eqb, leb}
+use lib.Dec.{eqb}
 use lib.ListN.{length, getD}
 use Rattle.buffers.specs.Put.{put}
 use Rattle.buffers.proofs.PutLaws.{put-none}
@@ -17,10 +17,8 @@ use Rattle.transducer.specs.Refusals as refusal
 use Rattle.transducer.specs.Transition.{OutputWord, wordOf, bytesOf}
 use Rattle.transducer.specs.Accepted.{acceptedOf}
 use Rattle.transducer.specs.Paths.{Relates, Functional}
-use Rattle.transducer.specs.Alike.{Alike}
 use Rattle.transducer.specs.declared.Transducer.{Transducer}
 use Rattle.transducer.proofs.Bools.{and-both, all-of}
-use Rattle.transducer.proofs.AlikeLaws.{alike-equivalent}
 use Rattle.transducer.proofs.SizeLaws.{length-bytes}
 use Rattle.wordsearch.specs.Limits.{mostWord, mostWritten}
 use Rattle.translator.specs.Numbers.{numberOf, lengthOf}
@@ -58,77 +56,6 @@ refused-length Invalid h = refl
 refused-length WordTooLong h = refl
 refused-length NoInputCode h = refl
 refused-length Unread h = refl
-
--- ---- 7 is never given with 65,528 places
-
--- the refusals before the search are not 7
-refusal-no-seven : (t : Transducer) (input : List ℕ) → refusalOf t input ≢ refusal.tooShort
-unfolding refusalOf
-refusal-no-seven t input = go (acceptedOf t) (leb (length input) mostWord) (allCodes input)
-  where
-    go : (a b c : Bool) → _≢_ {A = ℕ} (cond a (cond b (cond c 0 refusal.noInputCode) refusal.wordTooLong) refusal.invalid) refusal.tooShort
-    go false b c e = omega arith
-    go true false c e = omega arith
-    go true true false e = omega arith
-    go true true true e = omega arith
-
-module _ {t : Transducer} {input out₀ out : List ℕ} {r : Translation} where
-  pub never-short : mostWritten ≤ length out₀ → Translated t input out₀ out r → numberOf r ≢ refusal.tooShort
-  never-short room h e = go (ℕ-discrete (refusalOf t input) 0)
-    where
-      outcome : Outcome t input out₀ out r → ⊥
-      outcome (Outcome.written a few fits n k o) = omega arith
-      outcome (Outcome.unread never n) = omega arith
-      outcome (Outcome.short a few long n) = omega arith
-
-      go : Dec (refusalOf t input ≡ 0) → ⊥
-      go (yes z) = outcome (h .answered z)
-      go (no z) = refusal-no-seven t input (sym (h .refused z) ∙ e)
-
--- ---- which refusal is given
-
-module _ {t : Transducer} {input out₀ out : List ℕ} {r : Translation} (h : Translated t input out₀ out r) where
-  -- 8, 9 and 10 are given exactly where the definition says so, whatever the transducer is
-  pub refused-exactly : (n : ℕ) → refusal.invalid ≤ n → n ≤ refusal.noInputCode → (numberOf r ≡ n) ↔ (refusalOf t input ≡ n)
-  refused-exactly n low high = (λ e. go e (ℕ-discrete (refusalOf t input) 0), λ e. h .refused (λ z. omega arith) ∙ e)
-    where
-      outcome : numberOf r ≡ n → Outcome t input out₀ out r → ⊥
-      outcome e (Outcome.written a few fits k l o) = omega arith
-      outcome e (Outcome.unread never k) = omega arith
-      outcome e (Outcome.short a few long k) = omega arith
-
-      go : numberOf r ≡ n → Dec (refusalOf t input ≡ 0) → refusalOf t input ≡ n
-      go e (yes z) = absurd (outcome e (h .answered z))
-      go e (no z) = sym (h .refused z) ∙ e
-
-  module _ (none : refusalOf t input ≡ 0) where
-    -- 11 is given exactly where no accepting path reads the word
-    pub unread-exactly : (numberOf r ≡ refusal.unread) ↔ ((y : OutputWord) → Relates t (wordOf input) y → ⊥)
-    unread-exactly = (λ e. to e (h .answered none), λ never. from never (h .answered none))
-      where
-        to : numberOf r ≡ refusal.unread → Outcome t input out₀ out r → (y : OutputWord) → Relates t (wordOf input) y → ⊥
-        to e (Outcome.written a few fits k l o) = absurd (omega arith)
-        to e (Outcome.unread never k) = never
-        to e (Outcome.short a few long k) = absurd (omega arith)
-
-        from : ((y : OutputWord) → Relates t (wordOf input) y → ⊥) → Outcome t input out₀ out r → numberOf r ≡ refusal.unread
-        from never (Outcome.written a few fits k l o) = absurd (never _ a)
-        from never (Outcome.unread never′ k) = k
-        from never (Outcome.short a few long k) = absurd (never _ a)
-
-    -- on a functional transducer 7 is given exactly where the output of the word is longer than the buffer
-    pub short-exactly : {y : OutputWord} → Functional t → Relates t (wordOf input) y → (numberOf r ≡ refusal.tooShort) ↔ (length out₀ < length y)
-    short-exactly {y} f b = (λ e. to e (h .answered none), λ long. from long (h .answered none))
-      where
-        to : numberOf r ≡ refusal.tooShort → Outcome t input out₀ out r → length out₀ < length y
-        to e (Outcome.written a few fits k l o) = absurd (omega arith)
-        to e (Outcome.unread never k) = absurd (never y b)
-        to e (Outcome.short {y = z} a few long k) = omega (arith, ap length (f (wordOf input) z y a b))
-
-        from : length out₀ < length y → Outcome t input out₀ out r → numberOf r ≡ refusal.tooShort
-        from long (Outcome.written {y = z} a few fits k l o) = absurd (omega (arith, ap length (f (wordOf input) z y a b)))
-        from long (Outcome.unread never k) = absurd (never y b)
-        from long (Outcome.short a few long′ k) = k
 
 -- ---- on a functional transducer the contract determines the answer
 
@@ -219,51 +146,3 @@ gives-the-output {t} {input} {out₀} {out} {r} {y} f valid short codes room a h
         (same-answer r (Written (length y)) n (k ∙ ap length e), rw e at o)
     outcome (Outcome.unread never n) = absurd (never y a)
     outcome (Outcome.short b few long n) = absurd (omega arith)
-
--- ---- transducers that are alike
-
-module _ {t t′ : Transducer} (alike : Alike t t′) (valid : acceptedOf t ≡ true) (valid′ : acceptedOf t′ ≡ true) where
-  same-refusals : (input : List ℕ) → refusalOf t input ≡ refusalOf t′ input
-  unfolding refusalOf
-  same-refusals input = rw (valid, valid′)
-
-  -- what meets the contract for one meets it for the other
-  pub alike-translated : {input out₀ out : List ℕ} {r : Translation} → Translated t′ input out₀ out r → Translated t input out₀ out r
-  alike-translated {input} {out₀} {out} {r} h =
-      record {
-        refused = rw (same-refusals input) (h .refused);
-        answered = rw (same-refusals input) (λ z. outcome (h .answered z));
-        unchanged = h .unchanged;
-      }
-    where
-      outcome : Outcome t′ input out₀ out r → Outcome t input out₀ out r
-      outcome (Outcome.written {y = y} a few fits n k o) = Outcome.written (alike-equivalent alike _ y .1 a) few fits n k o
-      outcome (Outcome.unread never n) = Outcome.unread (λ y a. never y (alike-equivalent alike _ y .0 a)) n
-      outcome (Outcome.short {y = y} a few long n) = Outcome.short (alike-equivalent alike _ y .1 a) few long n
-
-  module _ {input out₀ out out₀′ out′ : List ℕ} {r r′ : Translation}
-      (h : Translated t input out₀ out r) (h′ : Translated t′ input out₀′ out′ r′)
-    where
-      -- 8, 9, 10 and 11 agree, functional or not
-      pub alike-refuses : numberOf r ≢ 0 → numberOf r ≢ refusal.tooShort → numberOf r ≡ numberOf r′
-      alike-refuses n s = go (ℕ-discrete (refusalOf t input) 0)
-        where
-          outcomes : Outcome t input out₀ out r → Outcome t input out₀′ out′ r′ → numberOf r ≡ numberOf r′
-          outcomes (Outcome.written a few fits e l o) q = absurd (n e)
-          outcomes (Outcome.short a few long e) q = absurd (s e)
-          outcomes (Outcome.unread never e) (Outcome.unread never′ e′) = e ∙ sym e′
-          outcomes (Outcome.unread never e) (Outcome.written a few fits e′ l o) = absurd (never _ a)
-          outcomes (Outcome.unread never e) (Outcome.short a few long e′) = absurd (never _ a)
-
-          go : Dec (refusalOf t input ≡ 0) → numberOf r ≡ numberOf r′
-          go (yes z) = outcomes (h .answered z) (alike-translated h′ .answered z)
-          go (no z) = h .refused z ∙ sym (alike-translated h′ .refused z)
-
-      -- a functional transducer and one that is alike give the same answer, and the same output whatever their buffers of 65,528 places hold
-      pub alike-translates : Functional t → mostWritten ≤ length out₀ → mostWritten ≤ length out₀′ → Same out₀ out out₀′ out′ r r′
-      alike-translates f room room′ = translated-same f (λ n few k. omega arith) (λ n few k. omega arith) h (alike-translated h′)
-
-  -- from one buffer, of whatever size, the whole buffer is the same too
-  pub alike-determined : {input out₀ out out′ : List ℕ} {r r′ : Translation} → Functional t
-      → Translated t input out₀ out r → Translated t′ input out₀ out′ r′ → (r ≡ r′) × (out ≡ out′)
-  alike-determined f h h′ = translated-determined f h (alike-translated h′)
