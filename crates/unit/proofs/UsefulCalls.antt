@@ -24,7 +24,7 @@ use Rattle.functionality.proofs.VerdictLaws.{counted}
 use Rattle.engine.specs.Engine.{tableOf}
 use Rattle.answers.specs.Answers.{fileCode, flagOf}
 use Rattle.answers.specs.Answers.{pairsAnswer}
-use Rattle.unit.specs.Calls.{firstOf, Flagged, statesCode, StatesGiven, pairsCode, PairsGiven}
+use Rattle.unit.specs.Calls.{Flagged, statesCode, StatesGiven, pairsCode, PairsGiven}
 use Rattle.unit.proofs.Codes.{this-one, none-then, no-more, room, no-room}
 
 -- ---- useful states
