@@ -2,18 +2,16 @@
 // specs/Translated.antt. The path comes from the search of `wordsearch`, last transition first, so that the output is measured on one way back
 // along the search's parents and written, from its end to its beginning, on another.
 ghost use mathlib.Core.Path.{_≡_};
-ghost use Prim.Native.Nat.{_+_, _≤_};
+ghost use Prim.Native.Nat.{_≤_};
 ghost use lib.ListN.{length};
 ghost use Rattle.buffers.specs.Put.{put};
-ghost use Rattle.transducer.specs.Limits.{mostOutputs};
-ghost use Rattle.transducer.specs.Transition.{writtenBy, bytesOf};
+ghost use Rattle.transducer.specs.Transition.{bytesOf};
 ghost use Rattle.transducer.specs.Valid.{Valid};
 ghost use Rattle.wordsearch.specs.Answers.{written, Traced};
 ghost use Rattle.translator.specs.Numbers.{numberOf, lengthOf};
 ghost use Rattle.translator.specs.Words.{allCodes};
 ghost use Rattle.translator.specs.Translated.{Translated};
 use transducer::Transducer;
-use transducer::Transition;
 use transducer::refusals;
 use wordsearch::limits;
 
@@ -129,21 +127,7 @@ fn write(t: Transducer, parent: &[u32], via: &[u32], place: u32, out: &mut [u8],
         let l = via[at] as usize;
         let v = t.transitions[l];
         to -= v.count as usize;
-        put(v, out, to);
+        pathwords::put_output(v, out, to);
         at = parent[at] as usize - 1;
-    }
-}
-
-// Writes the output codes of a transition to `out` from the place `at` on.
-fn put(v: Transition, out: &mut [u8], at: usize)
-    requires { ⌜ v .count ≤ mostOutputs ⌝ }
-    requires { ⌜ at + v .count ≤ length (now out) ⌝ }
-    ensures { λ _. ⌜ now (out .exit) ≡ put (now (out .entry)) at (bytesOf (writtenBy v)) ⌝ }
-{
-    let n = v.count as usize;
-    let mut j = 0;
-    while j < n {
-        out[at + j] = v.output[j].0;
-        j += 1;
     }
 }

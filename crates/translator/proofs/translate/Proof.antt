@@ -52,17 +52,11 @@ passes c =
 
 -- ---- needs
 
-accepted-requires : tie.Need-accepted-requires
-accepted-requires c κs = search needs
-
 returns : tie.Need-returns
 returns c = refuses (refusal-invalid _ _ (sym (c .before .accepted .ensures .answer) ∙ not-true _ (c .if1 .taken))) (λ z. omega arith)
 
 returns-2 : tie.Need-returns-2
 returns-2 c = refuses (refusal-long _ _ (is-accepted (c .before)) (c .if2 .taken)) (λ z. omega arith)
-
-codes-ok-requires : tie.Need-codes-ok-requires
-codes-ok-requires c κs = search needs
 
 returns-3 : tie.Need-returns-3
 returns-3 c =
@@ -71,12 +65,6 @@ returns-3 c =
     (sym (c .before .codes-ok .ensures) ∙ not-true _ (c .if3 .taken)))
     (λ z. omega arith)
 
-slice-aggregate-find : tie.Need-slice-aggregate-find
-slice-aggregate-find c = search needs
-
-slice-aggregate-find-2 : tie.Need-slice-aggregate-find-2
-slice-aggregate-find-2 c = search needs
-
 find-requires : tie.Need-find-requires
 find-requires c κs = let e = c .before .before .before .before in (facts (e .before), (e .if2 .left, (search needs, search needs)))
 
@@ -84,12 +72,6 @@ returns-4 : tie.Need-returns-4
 returns-4 c =
     let e = c .before .before .before in
     answers (passes (third e)) (Outcome.unread (answered-unread (e .find .ensures) (c .if4 .taken)) refl) (λ _. refl)
-
-slice-aggregate-measure : tie.Need-slice-aggregate-measure
-slice-aggregate-measure c = search needs
-
-slice-aggregate-measure-2 : tie.Need-slice-aggregate-measure-2
-slice-aggregate-measure-2 c = search needs
 
 measure-requires : tie.Need-measure-requires
 measure-requires c κs =
@@ -106,21 +88,12 @@ returns-5 c =
     (Outcome.short (f .1) (f .0 .few) (omega (arith, c .if5 .taken, m .measure .ensures)) refl)
     (λ _. refl)
 
-slice-aggregate-write : tie.Need-slice-aggregate-write
-slice-aggregate-write c = search needs
-
-slice-aggregate-write-2 : tie.Need-slice-aggregate-write-2
-slice-aggregate-write-2 c = search needs
-
 write-requires : tie.Need-write-requires
 write-requires c κs =
     let m = measured c in
     let e = found m in
     let k = answered-found (searched e .find .ensures) (e .if4 .left) .0 in
     (facts (first (third (searched e))), (k, (m .measure .ensures, c .before .before .before .if5 .left)))
-
-same-length : tie.Need-same-length
-same-length c = search needs
 
 returns-6 : tie.Need-returns-6
 returns-6 c =
@@ -137,21 +110,21 @@ pub translate-spec : {M : Type 1} → statement M
 translate-spec =
     tie.close
     (tie.spec
-    accepted-requires
+    (λ c κs. search needs)
     returns
     returns-2
-    codes-ok-requires
+    (λ c κs. search needs)
     returns-3
-    slice-aggregate-find
-    slice-aggregate-find-2
+    (λ c. search needs)
+    (λ c. search needs)
     find-requires
     returns-4
-    slice-aggregate-measure
-    slice-aggregate-measure-2
+    (λ c. search needs)
+    (λ c. search needs)
     measure-requires
     returns-5
-    slice-aggregate-write
-    slice-aggregate-write-2
+    (λ c. search needs)
+    (λ c. search needs)
     write-requires
-    same-length
+    (λ c. search needs)
     returns-6)
