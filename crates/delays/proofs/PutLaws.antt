@@ -2,7 +2,7 @@
 use mathlib.Core.Path.{_≡_, refl, sym, ap, _∙_}
 use mathlib.Core.List.{List, [], _∷_, _++_, append-assoc, append-nil}
 use mathlib.Core.Bool.{Bool, true, false, _&&_}
-use mathlib.Core.Logic.{_⊎_, ⊎-elim, _↔_}
+use mathlib.Core.Logic.{⊎-elim, _↔_}
 use Prim.Native.Nat.{ℕ, zero, suc, _+_, _*_, _≤_, _<_}
 use native.Mathlib.Numerals.{add-one}
 use native.Mathlib.Omega.{arith}
@@ -15,7 +15,7 @@ use Rattle.transducer.specs.Transition.{firsts}
 use Rattle.transducer.specs.Valid.{allBelow}
 use Rattle.transducer.proofs.Bools.{le-or-lt, and-left, and-right, and-both, all-at, all-of}
 use Rattle.transducer.proofs.SizeLaws.{length-firsts}
-use Rattle.pathwords.proofs.ComparingLaws.{getD-firsts}
+use Rattle.transducer.proofs.LineLaws.{getD-firsts}
 use Rattle.product.specs.Numbers.{noTransition}
 use Rattle.delays.specs.Outputs.{entry, countAt, codesAt, Outputs, Appends}
 use Rattle.delays.proofs.OutputLaws.{firsts-same, length-codes, take-firsts}

@@ -6,19 +6,18 @@ use mathlib.Core.List.{List, [], _∷_, _++_, flatten}
 use Prim.Native.Nat.{ℕ, _+_, _*_, _≤_, _<_}
 use native.Mathlib.Omega.{arith}
 use borrow.Author.Tests.{le-ltb}
-use lib.ListN.{length, getD, drop, replicate, length-drop}
+use lib.ListN.{length, getD, drop, length-drop}
 use Rattle.records.specs.Letters.{letterT, letterS, letterF, mostBytes}
 use Rattle.records.specs.Reading.{filled}
 use Rattle.records.proofs.FilledLaws.{firsts-at}
 use Rattle.records.proofs.RecordTrip.{RecordRead, record-read}
-use Rattle.transducer.specs.Limits.{mostStates, mostTransitions, mostOutputs}
+use Rattle.transducer.specs.Limits.{mostStates, mostTransitions}
 use Rattle.transducer.specs.StateSet.{In, noStates}
-use Rattle.transducer.specs.Transition.{outside, at, outputAt, firsts}
+use Rattle.transducer.specs.Transition.{outside, at, firsts}
 use Rattle.transducer.specs.Blank.{clearTransition, blankTransducer}
-use Rattle.transducer.specs.Valid.{Clear, Valid, Shaped}
+use Rattle.transducer.specs.Valid.{Valid, Shaped}
 use Rattle.transducer.specs.Accepted.{acceptedOf}
 use Rattle.transducer.specs.declared.StateSet.{StateSet}
-use Rattle.transducer.specs.declared.Transition.{Transition}
 use Rattle.transducer.specs.declared.Transducer.{Transducer}
 use Rattle.transducer.proofs.AcceptedLaws.{accepted-valid}
 use Rattle.transducer.proofs.SizeLaws.{length-firsts}
@@ -30,23 +29,14 @@ use Rattle.tablereader.specs.Transitions.{transitionsFrom}
 use Rattle.tablereader.specs.Reader.{endFault, startsOf, finalsOf, transitionsOf, outcomeWith, tableWith, readOf}
 use Rattle.tablereader.specs.declared.header.Header.{Header}
 use Rattle.tablereader.specs.declared.Outcome.the-variants.{Taken}
-use Rattle.tablereader.proofs.TransitionRecords.{noCode}
 use Rattle.tablewriter.specs.File.{statesOf, sizeOf, stateBytes, transitionBytesBelow, headerBytes, writeOf}
 use Rattle.tablewriter.proofs.FileLaws.{file-parts}
+use Rattle.transducer.proofs.LineLaws.{clear-same}
 use Rattle.tablewriter.proofs.LengthLaws.{size-most, written-at-most}
 use Rattle.tablefile.proofs.Rising.{add-states, set-rising}
 use Rattle.tablefile.proofs.Filled.{filled-firsts}
 use Rattle.tablefile.proofs.StateRecords.{states-read}
-use Rattle.tablefile.proofs.TransitionRecords.{zero-code, UsedIn, transitions-read}
-
--- a transition of which every place holds 0, and whose array has its length, is the one that is not in use
-clear-same : (v : Transition) → Clear v → length (v .output) ≡ mostOutputs → v ≡ clearTransition
-unfolding firsts
-clear-same v c size =
-    let outputs : replicate mostOutputs noCode ≡ v .output =
-    filled-firsts noCode noCode mostOutputs 0 (v .output) size (omega arith) (λ j h k. zero-code (outputAt v j) (c .outputs-zero j k))
-    in
-    λ i. record { from = c .from-zero i; to = c .to-zero i; input = record { 0 = c .input-zero i }; count = c .count-zero i; output = sym outputs i }
+use Rattle.tablefile.proofs.TransitionRecords.{UsedIn, transitions-read}
 
 -- the transitions of t, stored from place 0, give its array
 stored : (t : Transducer) → Valid t → Shaped t → filled clearTransition mostTransitions (firsts (t .count) (at t)) ≡ t .transitions
@@ -77,7 +67,8 @@ module _ (t : Transducer) (v : Valid t) (s : Shaped t) (text : List ℕ) (is : t
   transitions : List ℕ
   transitions = transitionBytesBelow t (t .count)
 
-  header : RecordRead text 0 letterT headerRanges (t .states ∷ sizeOf (t .starts) ∷ sizeOf (t .finals) ∷ t .count ∷ []) (starts ++ (finals ++ (transitions ++ [])))
+  header : RecordRead text 0 letterT headerRanges (t .states ∷ sizeOf (t .starts) ∷ sizeOf (t .finals) ∷ t .count ∷ [])
+      (starts ++ (finals ++ (transitions ++ [])))
   unfolding flatten headerBytes starts finals transitions
   header =
       let states = v .few-states in

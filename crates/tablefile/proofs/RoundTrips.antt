@@ -1,6 +1,5 @@
 -- Demand 2, second half, in one place: the statement of specs/RoundTrips.antt holds. Assumes nothing.
 use Rattle.transducer.proofs.AcceptedLaws.{accepted-valid}
-use Rattle.tablereader.specs.Reader.{readOf}
 use Rattle.tablereader.proofs.Validity.{read-accepted}
 use Rattle.tablewriter.proofs.LengthLaws.{written-length, written-at-most}
 use Rattle.tablefile.specs.RoundTrips.{RoundTrips}

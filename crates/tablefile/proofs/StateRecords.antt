@@ -34,7 +34,9 @@ module _ (text : List ℕ) (letter n : ℕ) where
   unfolding readStates stateRecord stateBytes flatMap outcomeOf _▸_
   states-read at low rec s [] rest m r e = let here : at + stateSize * 0 ≡ at = omega arith in record { read = refl; follows = rw here e }
   states-read at low rec s (q ∷ qs) rest m (more h k r) e =
-      let fits : Fits (record { low = 0; high = n - 1; least = low }) q = record { above = omega arith; below = omega arith; rises = h; small = omega arith } in
+      let fits : Fits (record { low = 0; high = n - 1; least = low }) q =
+      record { above = omega arith; below = omega arith; rises = h; small = omega arith }
+      in
       let one =
       record-read text at letter (stateRanges n low) (q ∷ []) (stateBytes letter qs ++ rest) (fits, tt)
       (e ∙ append-assoc (recordBytes columns letter (q ∷ [])) (stateBytes letter qs) rest)
@@ -44,7 +46,8 @@ module _ (text : List ℕ) (letter n : ℕ) where
       record {
         read =
             ap
-            (λ (r : Record). readStates (length qs) text letter n (at + stateSize) (stateOf r .value + 1) (rec + 1) (Taken ▸ outcomeOf (stateOf r .fault) rec) (withState s (stateOf r .value)))
+            (λ (r : Record). readStates (length qs) text letter n (at + stateSize) (stateOf r .value + 1) (rec + 1)
+            (Taken ▸ outcomeOf (stateOf r .fault) rec) (withState s (stateOf r .value)))
             (one .read)
             ∙ others .read;
         follows = rw place (others .follows);

@@ -2,14 +2,12 @@
 use mathlib.Core.Path.{_≡_, refl, sym, ap, _∙_}
 use mathlib.Core.List.{List, [], _∷_, _++_, flatMap, append-assoc}
 use mathlib.Core.Logic.{⊎-elim}
-use Prim.Native.Nat.{ℕ, zero, suc, _+_, _-_, _≤_, _<_}
+use Prim.Native.Nat.{ℕ, zero, suc, _+_, _≤_, _<_}
 use native.Mathlib.Numerals.{add-one}
 use native.Mathlib.Omega.{arith}
 use lib.ListN.{length, getD, drop, set, replicate, length-replicate, List·getD-map, List·getD-eq-default}
 use lib.Seq.{ext-getD, sets}
-use Rattle.records.specs.Field.{columns}
-use Rattle.records.specs.Letters.{letterL, mostFields}
-use Rattle.records.specs.Record.{recordBytes}
+use Rattle.records.specs.Letters.{letterL}
 use Rattle.records.specs.Reading.{range, valuesAt, inArray, recordAt}
 use Rattle.records.specs.declared.reading.Record.{Record}
 use Rattle.records.proofs.FilledLaws.{firsts-at}
@@ -50,7 +48,9 @@ module _ (n : ℕ) (v : Transition) (u : Used n v) where
 
   -- the byte at place j is the output code there, and 0 behind all of them
   byte-at : (j : ℕ) → j < mostOutputs → getD (bytesOf (writtenBy v)) j 0 ≡ outputAt v j .0
-  byte-at j h = List·getD-map (λ (c : OutputCode). c .0) (writtenBy v) j noCode ∙ ap (λ (c : OutputCode). c .0) (⊎-elim beyond inside (le-or-lt (v .count) j))
+  byte-at j h =
+      List·getD-map (λ (c : OutputCode). c .0) (writtenBy v) j noCode
+      ∙ ap (λ (c : OutputCode). c .0) (⊎-elim beyond inside (le-or-lt (v .count) j))
     where
       inside : j < v .count → getD (writtenBy v) j noCode ≡ outputAt v j
       inside k = firsts-at (v .count) (outputAt v) j noCode k
@@ -124,7 +124,8 @@ module _ (text : List ℕ) (n : ℕ) where
       let u = transition-used text at n some in
       let few = u .few-outputs in
       let size = few-bytes n v u in
-      let long : length (codes text at n) ≡ v .count = values-length text _ (replicate (countAt text at) (range 1 mostCode)) ∙ length-replicate (countAt text at) (range 1 mostCode) in
+      let items = replicate (countAt text at) (range 1 mostCode) in
+      let long : length (codes text at n) ≡ v .count = values-length text _ items ∙ length-replicate (countAt text at) (range 1 mostCode) in
       let same : bytesOf (writtenBy v) ≡ codes text at n =
       ext-getD 0 (bytesOf (writtenBy v)) (codes text at n) (size ∙ sym long)
       (λ j h. let inside : j < mostOutputs = omega arith in byte-at n v u j inside ∙ code-at text at n j inside)
@@ -160,7 +161,8 @@ module _ (text : List ℕ) (n : ℕ) where
   unfolding readTransitions flatMap
   transitions-read at rec i l [] rest m u e = record { end = at; read = refl; follows = e }
   transitions-read at rec i l (v ∷ vs) rest m u e =
-      let one = transition-read at v (flatMap transitionBytes vs ++ rest) m (u 0 (omega arith)) (e ∙ append-assoc (transitionBytes v) (flatMap transitionBytes vs) rest) in
+      let there = e ∙ append-assoc (transitionBytes v) (flatMap transitionBytes vs) rest in
+      let one = transition-read at v (flatMap transitionBytes vs ++ rest) m (u 0 (omega arith)) there in
       let others = transitions-read (one .end) (rec + 1) (suc i) (set l i v) vs rest m (λ j h. u (suc j) (omega arith)) (one .follows) in
       record {
         end = others .end;

@@ -14,6 +14,7 @@ use Rattle.transducer.specs.Blank.{clearTransition, blankTransducer}
 use Rattle.transducer.specs.Valid.{Used, Clear}
 use Rattle.transducer.specs.declared.OutputCode.{OutputCode}
 use Rattle.transducer.specs.declared.Transition.{Transition}
+use Rattle.transducer.proofs.LineLaws.{clear-clear}
 use Rattle.records.specs.Field.{columns}
 use Rattle.records.specs.Letters.{mostFields}
 use Rattle.records.specs.Reading.{range, numberAt, valuesAt, inArray, recordAt}
@@ -187,16 +188,6 @@ transitions-placed (suc k) text n at rec i outcome l h few p =
     let next : i + 1 + k ≡ i + suc k = omega arith in
     rw (← next)
     (transitions-placed k text n _ _ (i + 1) _ _ h (omega arith) (placed-more n i l p _ (omega arith) (rw (transition-values text at n) (transition-used text at n h))))
-
-clear-clear : Clear clearTransition
-clear-clear =
-    record {
-      from-zero = refl;
-      to-zero = refl;
-      input-zero = refl;
-      count-zero = refl;
-      outputs-zero = λ j k. rw (getD-replicate mostOutputs j noCode noCode k);
-    }
 
 pub blank-placed : (n : ℕ) → Placed n 0 (blankTransducer .transitions)
 unfolding blankTransducer

@@ -3,7 +3,7 @@ ghost use mathlib.Core.Bool.{cond, _&&_};
 ghost use mathlib.Core.Path.{_≡_};
 ghost use Prim.Native.Nat.{ℕ, _<_};
 ghost use lib.ListN.{length};
-ghost use Rattle.transducer.specs.Limits.{mostStates, mostTransitions, mostOutputs};
+ghost use Rattle.transducer.specs.Limits.{mostTransitions, mostOutputs};
 ghost use Rattle.transducer.specs.Transition.{at};
 ghost use Rattle.transducer.specs.Valid.{allBelow, codeOf, codesOf, usedOf, clearOf, placeOf, setOf, Tested};
 use crate::StateSet;

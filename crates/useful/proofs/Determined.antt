@@ -4,7 +4,6 @@ use mathlib.Core.Bool.{Bool, true, false}
 use native.Mathlib.Omega.{arith}
 use Rattle.transducer.specs.StateSet.{has}
 use Rattle.transducer.specs.Accepted.{acceptedOf}
-use Rattle.transducer.specs.declared.StateSet.{StateSet}
 use Rattle.transducer.specs.declared.Transducer.{Transducer}
 use Rattle.transducer.proofs.Bools.{same-flag}
 use Rattle.transducer.proofs.StateSetLaws.{same-set}

@@ -1,6 +1,6 @@
 -- The way back from a place that the search answers, step by step, for whoever follows the parents: it ends where the parent is 0, any other
 -- place has an older one before it, and the transition between them writes the end of the word. Assumes nothing.
-use mathlib.Core.Path.{_≡_, refl, sym, ap, _∙_}
+use mathlib.Core.Path.{_≡_, sym, ap, _∙_}
 use mathlib.Core.List.{List, [], _∷_, _++_, append-nil, reverse, reverse-cons}
 use mathlib.Core.Logic.{_≢_}
 use Prim.Native.Nat.{ℕ, _+_, _-_, _<_}

@@ -27,9 +27,6 @@ loop-holds c =
 shared-slice-read-list : tie.Need-shared-slice-read-list Inv-loop μ-loop
 shared-slice-read-list c = omega arith
 
-cast-list : tie.Need-cast-list Inv-loop μ-loop
-cast-list c = search needs
-
 slice-write-list : tie.Need-slice-write-list Inv-loop μ-loop
 slice-write-list c = omega (arith, part-room (c .before .before .loop .inv) (c .before .loop-test .taken) .room)
 
@@ -60,7 +57,7 @@ put-flags-spec =
     μ-loop
     loop-holds
     shared-slice-read-list
-    cast-list
+    (λ c. search needs)
     slice-write-list
     add-i
     loop-less

@@ -29,38 +29,17 @@ tried c = c .before .before .before .before
 
 -- ---- needs
 
-slice-read-if1 : tie.Need-slice-read-if1
-slice-read-if1 c = search needs
-
 returns : tie.Need-returns
 returns c =
     let a = entry (c .before) .pre in
     let f = a .1 .1 .0 in
     passes (f .pass _ (c .if1 .taken), f)
 
-mul-if2 : tie.Need-mul-if2
-mul-if2 c = search needs
-
-shared-slice-read-if2 : tie.Need-shared-slice-read-if2
-shared-slice-read-if2 c = search needs
-
 try-pair-requires : tie.Need-try-pair-requires
 try-pair-requires c κs =
     let a = start (alone-here c) .pre in
     let v = a .1 .0 in
     (a .0, (v, (level-needs (a .0) (v .0) (v .1) (c .before .before .before .before .if2 .taken), ((λ h. absurd (omega arith)), a .1 .1 .1))))
-
-same-length : tie.Need-same-length
-same-length c = search needs
-
-same-length-2 : tie.Need-same-length-2
-same-length-2 c = search needs
-
-same-length-3 : tie.Need-same-length-3
-same-length-3 c = search needs
-
-same-length-4 : tie.Need-same-length-4
-same-length-4 c = search needs
 
 returns-2 : tie.Need-returns-2
 returns-2 c = alone (start (alone-here (tried c .before)) .pre .1 .1 .0) (tried c .try-pair .ensures)
@@ -71,42 +50,24 @@ try-way-requires c κs =
     let v = a .1 .0 in
     (a .0, ((v .0, v .1, c .before .before .before .before .before .if2 .left), a .1 .1))
 
-same-length-5 : tie.Need-same-length-5
-same-length-5 c = search needs
-
-same-length-6 : tie.Need-same-length-6
-same-length-6 c = search needs
-
-same-length-7 : tie.Need-same-length-7
-same-length-7 c = search needs
-
-same-length-8 : tie.Need-same-length-8
-same-length-8 c = search needs
-
-same-length-9 : tie.Need-same-length-9
-same-length-9 c = search needs
-
-returns-3 : tie.Need-returns-3
-returns-3 c = search needs
-
 pub try-from-spec : {M : Type 1} → statement M
 try-from-spec =
     tie.close
     (tie.spec
-    slice-read-if1
+    (λ c. search needs)
     returns
-    mul-if2
-    shared-slice-read-if2
+    (λ c. search needs)
+    (λ c. search needs)
     try-pair-requires
-    same-length
-    same-length-2
-    same-length-3
-    same-length-4
+    (λ c. search needs)
+    (λ c. search needs)
+    (λ c. search needs)
+    (λ c. search needs)
     returns-2
     try-way-requires
-    same-length-5
-    same-length-6
-    same-length-7
-    same-length-8
-    same-length-9
-    returns-3)
+    (λ c. search needs)
+    (λ c. search needs)
+    (λ c. search needs)
+    (λ c. search needs)
+    (λ c. search needs)
+    (λ c. search needs))

@@ -32,29 +32,8 @@ tried c = c .before .before .before .before
 
 -- ---- needs
 
-mul-g : tie.Need-mul-g
-mul-g c = search needs
-
-shared-slice-read-g : tie.Need-shared-slice-read-g
-shared-slice-read-g c = search needs
-
-uneven-start-requires : tie.Need-uneven-start-requires
-uneven-start-requires c κs = search needs
-
 returns : tie.Need-returns
 returns c = let p = start (c .before) .pre .1 .0 in pair-uneven (p .0) (p .1) (c .before .uneven-start .ensures) (c .if1 .taken)
-
-lack-requires : tie.Need-lack-requires
-lack-requires c κs = search needs
-
-copy-requires : tie.Need-copy-requires
-copy-requires c κs = search needs
-
-lack-requires-2 : tie.Need-lack-requires-2
-lack-requires-2 c κs = search needs
-
-copy-requires-2 : tie.Need-copy-requires-2
-copy-requires-2 c κs = search needs
 
 all-requires : tie.Need-all-requires
 all-requires c κs =
@@ -65,12 +44,6 @@ all-requires c κs =
           (first p .lack .ensures) (second q .lack2 .ensures) (p .copy .ensures) (q .copy2 .ensures),
       a .1 .1 .1 .0,
     )
-
-same-length : tie.Need-same-length
-same-length c = search needs
-
-same-length-2 : tie.Need-same-length-2
-same-length-2 c = search needs
 
 returns-2 : tie.Need-returns-2
 returns-2 c =
@@ -84,15 +57,15 @@ pub try-pair-spec : {M : Type 1} → statement M
 try-pair-spec =
     tie.close
     (tie.spec
-    mul-g
-    shared-slice-read-g
-    uneven-start-requires
+    (λ c. search needs)
+    (λ c. search needs)
+    (λ c κs. search needs)
     returns
-    lack-requires
-    copy-requires
-    lack-requires-2
-    copy-requires-2
+    (λ c κs. search needs)
+    (λ c κs. search needs)
+    (λ c κs. search needs)
+    (λ c κs. search needs)
     all-requires
-    same-length
-    same-length-2
+    (λ c. search needs)
+    (λ c. search needs)
     returns-2)

@@ -134,30 +134,18 @@ cast-i c = omega (arith, inside (c .before .before))
 sub-i : tie.Need-sub-i Inv-loop μ-loop
 sub-i c = omega (arith, ahead (c .before .before) .next-is)
 
-taken-requires : tie.Need-taken-requires Inv-loop μ-loop
-taken-requires c κs = search needs
-
 count-requires : tie.Need-count-requires Inv-loop μ-loop
 count-requires c κs =
     let t = c .before .before .before in
     (begin (loop t) .pre .0 .grounds .lists .outputs, rw (c .taken .ensures) (taken-small false _ (ahead t .low-label)))
 
-cast-l : tie.Need-cast-l Inv-loop μ-loop
-cast-l c = search needs
-
 add-l : tie.Need-add-l Inv-loop μ-loop
 add-l c = omega (arith, low (loop (c .before .before .before .before)))
-
-taken-requires-2 : tie.Need-taken-requires-2 Inv-loop μ-loop
-taken-requires-2 c κs = search needs
 
 count-requires-2 : tie.Need-count-requires-2 Inv-loop μ-loop
 count-requires-2 c κs =
     let t = c .before .before .before .before .before in
     (begin (loop t) .pre .0 .grounds .lists .outputs, rw (c .taken2 .ensures) (taken-small true _ (ahead t .low-label)))
-
-cast-r : tie.Need-cast-r Inv-loop μ-loop
-cast-r c = search needs
 
 add-r : tie.Need-add-r Inv-loop μ-loop
 add-r c = omega (arith, low (loop (turn c)))
@@ -259,13 +247,13 @@ try-way-spec =
     shared-slice-read-i
     cast-i
     sub-i
-    taken-requires
+    (λ c κs. search needs)
     count-requires
-    cast-l
+    (λ c. search needs)
     add-l
-    taken-requires-2
+    (λ c κs. search needs)
     count-requires-2
-    cast-r
+    (λ c. search needs)
     add-r
     try-pair-requires
     same-length

@@ -46,9 +46,6 @@ leave-requires c κs =
     let a = start (c .before) .pre in
     ((links-out (a .0), led-out (a .0) (a .1 .1 .0 .useful)), (a .1 .1 .1, omega arith))
 
-same-length : tie.Need-same-length
-same-length c = search needs
-
 returns : tie.Need-returns
 returns c =
     let b = at-uneven (left c) in
@@ -58,22 +55,10 @@ returns c =
     let l = left c .leave .ensures in
     way-fails (a .0) _ (d .useful) (z .0) (way-stands (a .1 .1 .1) (led-out (a .0) (d .useful)) l) (z .1)
 
-slice-aggregate-ways-in : tie.Need-slice-aggregate-ways-in
-slice-aggregate-ways-in c = search needs
-
-slice-aggregate-ways-in-2 : tie.Need-slice-aggregate-ways-in-2
-slice-aggregate-ways-in-2 c = search needs
-
 ways-in-requires : tie.Need-ways-in-requires
 ways-in-requires c κs =
     let a = begin (at-step c) .pre in
     (a .0 .valid, (a .1 .0, (a .0 .ways .pairs, (refl, (refl, filled 0 mostPairs)))))
-
-slice-aggregate-round : tie.Need-slice-aggregate-round
-slice-aggregate-round c = search needs
-
-slice-aggregate-round-2 : tie.Need-slice-aggregate-round-2
-slice-aggregate-round-2 c = search needs
 
 round-requires : tie.Need-round-requires
 round-requires c κs =
@@ -82,26 +67,11 @@ round-requires c κs =
     let u = a .1 .1 .0 .useful in
     (ways-of (a .0) (w .ensures) (w .kept .1 .1 .1 .0) (w .kept .1 .1 .1 .1 .0) u u, a .1 .1 .1)
 
-mul-differs : tie.Need-mul-differs
-mul-differs c = search needs
-
-sub-differs : tie.Need-sub-differs
-sub-differs c = search needs
-
-part-differs-start : tie.Need-part-differs-start
-part-differs-start c = search needs
-
-part-differs-end : tie.Need-part-differs-end
-part-differs-end c = search needs
-
 differs-requires : tie.Need-differs-requires
 differs-requires c κs =
     let e = entered (round c .before) in
     let a = begin (at-step (e .before)) .pre in
     round-candidate (a .0) (e .ways-in .ensures) _ (a .1 .1 .0 .useful) (round c .round .ensures)
-
-same-length-2 : tie.Need-same-length-2
-same-length-2 c = search needs
 
 returns-2 : tie.Need-returns-2
 returns-2 c =
@@ -109,12 +79,6 @@ returns-2 c =
     let e = entered (r .before) in
     let a = begin (at-step (e .before)) .pre in
     round-fails (a .0) (e .ways-in .ensures) _ (a .1 .1 .0 .useful) (r .round .ensures) (c .before .differs .ensures .different (c .if2 .taken))
-
-slice-aggregate-through : tie.Need-slice-aggregate-through
-slice-aggregate-through c = search needs
-
-slice-aggregate-through-2 : tie.Need-slice-aggregate-through-2
-slice-aggregate-through-2 c = search needs
 
 through-requires : tie.Need-through-requires
 through-requires c κs =
@@ -127,9 +91,6 @@ through-requires c κs =
       ways-of (a .0) (w .ensures) (w .kept .1 .1 .1 .0) (w .kept .1 .1 .1 .1 .0) (d .useful) (d .step (b .if1 .left) .0),
       r .round .kept .1 .1 .1 .1 .1 .0 ∙ a .1 .1 .1,
     )
-
-same-length-3 : tie.Need-same-length-3
-same-length-3 c = search needs
 
 returns-3 : tie.Need-returns-3
 returns-3 c =
@@ -149,23 +110,23 @@ walk-spec =
     tie.close
     (tie.spec
     leave-requires
-    same-length
+    (λ c. search needs)
     returns
-    slice-aggregate-ways-in
-    slice-aggregate-ways-in-2
+    (λ c. search needs)
+    (λ c. search needs)
     ways-in-requires
-    slice-aggregate-round
-    slice-aggregate-round-2
+    (λ c. search needs)
+    (λ c. search needs)
     round-requires
-    mul-differs
-    sub-differs
-    part-differs-start
-    part-differs-end
+    (λ c. search needs)
+    (λ c. search needs)
+    (λ c. search needs)
+    (λ c. search needs)
     differs-requires
-    same-length-2
+    (λ c. search needs)
     returns-2
-    slice-aggregate-through
-    slice-aggregate-through-2
+    (λ c. search needs)
+    (λ c. search needs)
     through-requires
-    same-length-3
+    (λ c. search needs)
     returns-3)

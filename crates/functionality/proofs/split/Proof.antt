@@ -32,9 +32,6 @@ shown c = handed-back (c .before .before .before .before .before)
 
 -- ---- needs
 
-slice-aggregate-walk : tie.Need-slice-aggregate-walk
-slice-aggregate-walk c = search needs
-
 walk-requires : tie.Need-walk-requires
 walk-requires c κs = let a = start c .pre in (a .0, (a .1 .0, (a .1 .1 .0, refl)))
 
@@ -56,21 +53,6 @@ show-requires c κs =
     let a = start (found c .before) .pre in
     (record { candidate = record { valid = valid (a .0); whole = f .apart .whole; short = omega (arith, f .short, few (a .0)) }; differ = f .apart .differ }, full _ (a .1 .1 .1))
 
-same-length : tie.Need-same-length
-same-length c = search needs
-
-same-length-2 : tie.Need-same-length-2
-same-length-2 c = search needs
-
-same-length-3 : tie.Need-same-length-3
-same-length-3 c = search needs
-
-same-length-4 : tie.Need-same-length-4
-same-length-4 c = search needs
-
-same-length-5 : tie.Need-same-length-5
-same-length-5 c = search needs
-
 returns : tie.Need-returns
 returns c =
     let f = found (shown c .before) in
@@ -81,16 +63,16 @@ pub split-spec : {M : Type 1} → statement M
 split-spec =
     tie.close
     (tie.spec
-    slice-aggregate-walk
+    (λ c. search needs)
     walk-requires
     mul-show
     sub-show
     part-show-start
     part-show-end
     show-requires
-    same-length
-    same-length-2
-    same-length-3
-    same-length-4
-    same-length-5
+    (λ c. search needs)
+    (λ c. search needs)
+    (λ c. search needs)
+    (λ c. search needs)
+    (λ c. search needs)
     returns)

@@ -18,9 +18,6 @@ abbrev μ-loop : tie.MeasureT-loop
 loop-holds : tie.Need-loop-holds Inv-loop μ-loop
 loop-holds c = (omega arith, record { long = c .before .pre; tested = λ v h. absurd (omega arith) })
 
-one-if-requires : tie.Need-one-if-requires Inv-loop μ-loop
-one-if-requires c κs = search needs
-
 mul-numbers : tie.Need-mul-numbers Inv-loop μ-loop
 mul-numbers c = omega arith
 
@@ -55,7 +52,7 @@ mark-states-spec =
     Inv-loop
     μ-loop
     loop-holds
-    one-if-requires
+    (λ c κs. search needs)
     mul-numbers
     slice-write-numbers
     add-v

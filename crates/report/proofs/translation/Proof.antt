@@ -42,42 +42,9 @@ translated c = simp sub-zero at (c .translate-file .ensures)
 short : (c : tie.After-translate-file) → c .translate-file .result .length ≤ mostTranslated
 short c = translation-short (translated c)
 
-sub-translate-file : tie.Need-sub-translate-file
-sub-translate-file c = search needs
-
-part-translate-file-start : tie.Need-part-translate-file-start
-part-translate-file-start c = search needs
-
-part-translate-file-end : tie.Need-part-translate-file-end
-part-translate-file-end c = search needs
-
-sub-translate-file-2 : tie.Need-sub-translate-file-2
-sub-translate-file-2 c = search needs
-
-part-translate-file-start-2 : tie.Need-part-translate-file-start-2
-part-translate-file-start-2 c = search needs
-
-part-translate-file-end-2 : tie.Need-part-translate-file-end-2
-part-translate-file-end-2 c = search needs
-
-slice-aggregate-translate-file : tie.Need-slice-aggregate-translate-file
-slice-aggregate-translate-file c = search needs
-
-translate-file-requires : tie.Need-translate-file-requires
-translate-file-requires c κs = search needs
-
-list-refusal-requires : tie.Need-list-refusal-requires
-list-refusal-requires c κs = search needs
-
 returns : tie.Need-returns
 returns c =
     refusal-report (translated (refused c)) (refusal-room c) (c .before .before .if1 .taken) (c .list-refusal .ensures)
-
-sub-list-translation : tie.Need-sub-list-translation
-sub-list-translation c = search needs
-
-part-list-translation-start : tie.Need-part-list-translation-start
-part-list-translation-start c = search needs
 
 part-list-translation-end : tie.Need-part-list-translation-end
 part-list-translation-end c = omega (arith, short (answer (c .before)))
@@ -97,18 +64,18 @@ pub translation-spec : {M : Type 1} → statement M
 translation-spec =
     tie.close
     (tie.spec
-    sub-translate-file
-    part-translate-file-start
-    part-translate-file-end
-    sub-translate-file-2
-    part-translate-file-start-2
-    part-translate-file-end-2
-    slice-aggregate-translate-file
-    translate-file-requires
-    list-refusal-requires
+    (λ c. search needs)
+    (λ c. search needs)
+    (λ c. search needs)
+    (λ c. search needs)
+    (λ c. search needs)
+    (λ c. search needs)
+    (λ c. search needs)
+    (λ c κs. search needs)
+    (λ c κs. search needs)
     returns
-    sub-list-translation
-    part-list-translation-start
+    (λ c. search needs)
+    (λ c. search needs)
     part-list-translation-end
     list-translation-requires
     returns-2)

@@ -76,96 +76,21 @@ refusal-room c = omega (arith, c .before .list-refusal-arg .given .0 .1)
 verdict-room : (c : tie.After-list-verdict-arg6) → mostVerdictBytes ≤ length (now (entry (answer (from-out c)) .args .out))
 verdict-room c = omega (arith, c .list-verdict-arg6 .given .0 .1)
 
-sub-judge : tie.Need-sub-judge
-sub-judge c = search needs
-
-part-judge-start : tie.Need-part-judge-start
-part-judge-start c = search needs
-
-part-judge-end : tie.Need-part-judge-end
-part-judge-end c = search needs
-
-slice-aggregate-judge : tie.Need-slice-aggregate-judge
-slice-aggregate-judge c = search needs
-
-slice-aggregate-judge-2 : tie.Need-slice-aggregate-judge-2
-slice-aggregate-judge-2 c = search needs
-
-slice-aggregate-judge-3 : tie.Need-slice-aggregate-judge-3
-slice-aggregate-judge-3 c = search needs
-
-slice-aggregate-judge-4 : tie.Need-slice-aggregate-judge-4
-slice-aggregate-judge-4 c = search needs
-
-slice-aggregate-judge-5 : tie.Need-slice-aggregate-judge-5
-slice-aggregate-judge-5 c = search needs
-
-judge-requires : tie.Need-judge-requires
-judge-requires c κs = search needs
-
-list-refusal-requires : tie.Need-list-refusal-requires
-list-refusal-requires c κs = search needs
-
 returns : tie.Need-returns
 returns c =
     refused-report (judged (refused c)) (refusal-room c) (c .before .before .if1 .taken) (c .list-refusal .ensures)
 
-cast-words : tie.Need-cast-words
-cast-words c = search needs
-
-cast-a : tie.Need-cast-a
-cast-a c = search needs
-
-cast-b : tie.Need-cast-b
-cast-b c = search needs
-
-cast-x : tie.Need-cast-x
-cast-x c = search needs
-
-cast-y : tie.Need-cast-y
-cast-y c = search needs
-
-sub-list-verdict : tie.Need-sub-list-verdict
-sub-list-verdict c = search needs
-
-part-list-verdict-start : tie.Need-part-list-verdict-start
-part-list-verdict-start c = search needs
-
 part-list-verdict-end : tie.Need-part-list-verdict-end
 part-list-verdict-end c = omega (arith, few (answer (from-w c)) .word)
-
-sub-list-verdict-2 : tie.Need-sub-list-verdict-2
-sub-list-verdict-2 c = search needs
-
-part-list-verdict-start-2 : tie.Need-part-list-verdict-start-2
-part-list-verdict-start-2 c = search needs
 
 part-list-verdict-end-2 : tie.Need-part-list-verdict-end-2
 part-list-verdict-end-2 c = omega (arith, few (answer (from-a c)) .path-a)
 
-sub-list-verdict-3 : tie.Need-sub-list-verdict-3
-sub-list-verdict-3 c = search needs
-
-part-list-verdict-start-3 : tie.Need-part-list-verdict-start-3
-part-list-verdict-start-3 c = search needs
-
 part-list-verdict-end-3 : tie.Need-part-list-verdict-end-3
 part-list-verdict-end-3 c = omega (arith, few (answer (from-b c)) .path-b)
 
-sub-list-verdict-4 : tie.Need-sub-list-verdict-4
-sub-list-verdict-4 c = search needs
-
-part-list-verdict-start-4 : tie.Need-part-list-verdict-start-4
-part-list-verdict-start-4 c = search needs
-
 part-list-verdict-end-4 : tie.Need-part-list-verdict-end-4
 part-list-verdict-end-4 c = omega (arith, few (answer (from-x c)) .output-x)
-
-sub-list-verdict-5 : tie.Need-sub-list-verdict-5
-sub-list-verdict-5 c = search needs
-
-part-list-verdict-start-5 : tie.Need-part-list-verdict-start-5
-part-list-verdict-start-5 c = search needs
 
 part-list-verdict-end-5 : tie.Need-part-list-verdict-end-5
 part-list-verdict-end-5 c = omega (arith, few (answer (from-y c)) .output-y)
@@ -183,36 +108,36 @@ pub verdict-spec : {M : Type 1} → statement M
 verdict-spec =
     tie.close
     (tie.spec
-    sub-judge
-    part-judge-start
-    part-judge-end
-    slice-aggregate-judge
-    slice-aggregate-judge-2
-    slice-aggregate-judge-3
-    slice-aggregate-judge-4
-    slice-aggregate-judge-5
-    judge-requires
-    list-refusal-requires
+    (λ c. search needs)
+    (λ c. search needs)
+    (λ c. search needs)
+    (λ c. search needs)
+    (λ c. search needs)
+    (λ c. search needs)
+    (λ c. search needs)
+    (λ c. search needs)
+    (λ c κs. search needs)
+    (λ c κs. search needs)
     returns
-    cast-words
-    cast-a
-    cast-b
-    cast-x
-    cast-y
-    sub-list-verdict
-    part-list-verdict-start
+    (λ c. search needs)
+    (λ c. search needs)
+    (λ c. search needs)
+    (λ c. search needs)
+    (λ c. search needs)
+    (λ c. search needs)
+    (λ c. search needs)
     part-list-verdict-end
-    sub-list-verdict-2
-    part-list-verdict-start-2
+    (λ c. search needs)
+    (λ c. search needs)
     part-list-verdict-end-2
-    sub-list-verdict-3
-    part-list-verdict-start-3
+    (λ c. search needs)
+    (λ c. search needs)
     part-list-verdict-end-3
-    sub-list-verdict-4
-    part-list-verdict-start-4
+    (λ c. search needs)
+    (λ c. search needs)
     part-list-verdict-end-4
-    sub-list-verdict-5
-    part-list-verdict-start-5
+    (λ c. search needs)
+    (λ c. search needs)
     part-list-verdict-end-5
     list-verdict-requires
     returns-2)

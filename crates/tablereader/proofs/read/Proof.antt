@@ -36,35 +36,14 @@ first-call c = header-read (starts-read (finals-read (transitions-read c)))
 counts : (c : tie.After-read-header) → Counted (c .read-header .result)
 counts c = counted _ _ (c .read-header .ensures)
 
-read-header-requires : tie.Need-read-header-requires
-read-header-requires c κs = search needs
-
 read-states-requires : tie.Need-read-states-requires
 read-states-requires c κs = let h = counts c in search needs
-
-cast-finals-at : tie.Need-cast-finals-at
-cast-finals-at c = search needs
-
-mul-finals-at : tie.Need-mul-finals-at
-mul-finals-at c = search needs
-
-add-finals-at : tie.Need-add-finals-at
-add-finals-at c = search needs
 
 add-read-states : tie.Need-add-read-states
 add-read-states c = let h = counts (header-read (c .before .before)) in omega arith
 
 read-states-requires-2 : tie.Need-read-states-requires-2
 read-states-requires-2 c κs = let h = counts (header-read (c .before .before)) in search needs
-
-cast-transitions-at : tie.Need-cast-transitions-at
-cast-transitions-at c = search needs
-
-mul-transitions-at : tie.Need-mul-transitions-at
-mul-transitions-at c = search needs
-
-add-transitions-at : tie.Need-add-transitions-at
-add-transitions-at c = search needs
 
 add-first : tie.Need-add-first
 add-first c = let h = counts (header-read (starts-read (c .before .before))) in omega arith
@@ -75,38 +54,11 @@ add-first-2 c = let h = counts (header-read (starts-read (c .before .before .bef
 read-transitions-requires : tie.Need-read-transitions-requires
 read-transitions-requires c κs = let h = counts (header-read (starts-read (c .before .before .before))) in search needs
 
-end-fault-requires : tie.Need-end-fault-requires
-end-fault-requires c κs = search needs
-
-outcome-of-requires : tie.Need-outcome-of-requires
-outcome-of-requires c κs = search needs
-
 add-outcome-of : tie.Need-add-outcome-of
 add-outcome-of c = let h = counts (first-call (c .before)) in omega arith
 
-outcome-of-requires-2 : tie.Need-outcome-of-requires-2
-outcome-of-requires-2 c κs = search needs
-
-then-requires : tie.Need-then-requires
-then-requires c κs = search needs
-
-then-requires-2 : tie.Need-then-requires-2
-then-requires-2 c κs = search needs
-
-then-requires-3 : tie.Need-then-requires-3
-then-requires-3 c κs = search needs
-
-then-requires-4 : tie.Need-then-requires-4
-then-requires-4 c κs = search needs
-
-number-requires : tie.Need-number-requires
-number-requires c κs = search needs
-
 cast-t28 : tie.Need-cast-t28
 cast-t28 c = let h = counts (first-call (header-checked (c .before .before .before .before .before .before))) in omega arith
-
-blank-requires : tie.Need-blank-requires
-blank-requires c κs = search needs
 
 abbrev text-of : tie.After-then4 → List ℕ
 text-of c = now (first-call (header-checked c) .before .before .args .text)
@@ -159,29 +111,29 @@ pub read-spec : {M : Type 1} → statement M
 read-spec =
     tie.close
     (tie.spec
-    read-header-requires
+    (λ c κs. search needs)
     read-states-requires
-    cast-finals-at
-    mul-finals-at
-    add-finals-at
+    (λ c. search needs)
+    (λ c. search needs)
+    (λ c. search needs)
     add-read-states
     read-states-requires-2
-    cast-transitions-at
-    mul-transitions-at
-    add-transitions-at
+    (λ c. search needs)
+    (λ c. search needs)
+    (λ c. search needs)
     add-first
     add-first-2
     read-transitions-requires
-    end-fault-requires
-    outcome-of-requires
+    (λ c κs. search needs)
+    (λ c κs. search needs)
     add-outcome-of
-    outcome-of-requires-2
-    then-requires
-    then-requires-2
-    then-requires-3
-    then-requires-4
-    number-requires
+    (λ c κs. search needs)
+    (λ c κs. search needs)
+    (λ c κs. search needs)
+    (λ c κs. search needs)
+    (λ c κs. search needs)
+    (λ c κs. search needs)
     cast-t28
-    blank-requires
+    (λ c κs. search needs)
     returns
     returns-2)

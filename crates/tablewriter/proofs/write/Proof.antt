@@ -41,9 +41,6 @@ module _ {t : Transducer} (before : List ℕ) (s : Shaped t) where
 passed : {t : Transducer} {b : Bool} → Asked t b → not b ≡ false → acceptedOf t ≡ true
 passed h e = sym (h .answer) ∙ not-false _ e
 
-accepted-requires : tie.Need-accepted-requires
-accepted-requires c κs = search needs
-
 returns : tie.Need-returns
 returns c =
     let tested = c .before .accepted .ensures in
@@ -63,9 +60,6 @@ put-file-requires c κs =
     let e = c .before .before .before in
     (accepted-valid _ (passed (e .before .accepted .ensures) (e .if1 .left)), record { room = omega arith })
 
-same-length : tie.Need-same-length
-same-length c = search needs
-
 returns-3 : tie.Need-returns-3
 returns-3 c =
     let e = c .before .before .before .before .before .before in
@@ -76,10 +70,10 @@ pub write-spec : {M : Type 1} → statement M
 write-spec =
     tie.close
     (tie.spec
-    accepted-requires
+    (λ c κs. search needs)
     returns
     file-length-requires
     returns-2
     put-file-requires
-    same-length
+    (λ c. search needs)
     returns-3)

@@ -10,24 +10,6 @@ compared c = c .before .before .before .before .before
 returns : tie.Need-returns
 returns c = difference-short (c .if1 .taken)
 
-difference-requires : tie.Need-difference-requires
-difference-requires c κs = search needs
-
-kind-requires : tie.Need-kind-requires
-kind-requires c κs = search needs
-
-shared-requires : tie.Need-shared-requires
-shared-requires c κs = search needs
-
-slice-aggregate-put-numbers : tie.Need-slice-aggregate-put-numbers
-slice-aggregate-put-numbers c = search needs
-
-put-numbers-requires : tie.Need-put-numbers-requires
-put-numbers-requires c κs = search needs
-
-same-length : tie.Need-same-length
-same-length c = search needs
-
 returns-2 : tie.Need-returns-2
 returns-2 c =
     let shared = compared c in
@@ -41,10 +23,10 @@ yotselina-difference-spec =
     tie.close
     (tie.spec
     returns
-    difference-requires
-    kind-requires
-    shared-requires
-    slice-aggregate-put-numbers
-    put-numbers-requires
-    same-length
+    (λ c κs. search needs)
+    (λ c κs. search needs)
+    (λ c κs. search needs)
+    (λ c. search needs)
+    (λ c κs. search needs)
+    (λ c. search needs)
     returns-2)

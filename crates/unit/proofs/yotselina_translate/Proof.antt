@@ -13,21 +13,6 @@ entered c = c .before .before
 returns : tie.Need-returns
 returns c = translation-short (c .if1 .taken)
 
-translate-file-requires : tie.Need-translate-file-requires
-translate-file-requires c κs = search needs
-
-slice-aggregate-give : tie.Need-slice-aggregate-give
-slice-aggregate-give c = search needs
-
-give-requires : tie.Need-give-requires
-give-requires c κs = search needs
-
-same-length : tie.Need-same-length
-same-length c = search needs
-
-same-length-2 : tie.Need-same-length-2
-same-length-2 c = search needs
-
 returns-2 : tie.Need-returns-2
 returns-2 c =
     let at = translated c in
@@ -38,9 +23,9 @@ yotselina-translate-spec =
     tie.close
     (tie.spec
     returns
-    translate-file-requires
-    slice-aggregate-give
-    give-requires
-    same-length
-    same-length-2
+    (λ c κs. search needs)
+    (λ c. search needs)
+    (λ c κs. search needs)
+    (λ c. search needs)
+    (λ c. search needs)
     returns-2)

@@ -26,42 +26,12 @@ found c = c .before .before .before .before .before
 returns : tie.Need-returns
 returns c = pairs-answer-short (c .if1 .taken)
 
-read-requires : tie.Need-read-requires
-read-requires c κs = search needs
-
-of-file-requires : tie.Need-of-file-requires
-of-file-requires c κs = search needs
-
 returns-2 : tie.Need-returns-2
 returns-2 c =
     pairs-refused (entered (c .before) .if1 .left) (code-read _ (c .before .before .read .ensures) (c .before .of-file .ensures)) (c .if2 .taken)
 
 returns-3 : tie.Need-returns-3
 returns-3 c = pairs-short (entered (c .before .before) .if1 .left) (taken (c .before)) (c .if3 .taken)
-
-useful-pairs-requires : tie.Need-useful-pairs-requires
-useful-pairs-requires c κs = search needs
-
-slice-aggregate-put-flags : tie.Need-slice-aggregate-put-flags
-slice-aggregate-put-flags c = search needs
-
-put-flags-requires : tie.Need-put-flags-requires
-put-flags-requires c κs = search needs
-
-cast-t19 : tie.Need-cast-t19
-cast-t19 c = search needs
-
-slice-aggregate-put-numbers : tie.Need-slice-aggregate-put-numbers
-slice-aggregate-put-numbers c = search needs
-
-put-numbers-requires : tie.Need-put-numbers-requires
-put-numbers-requires c κs = search needs
-
-same-length : tie.Need-same-length
-same-length c = search needs
-
-same-length-2 : tie.Need-same-length-2
-same-length-2 c = search needs
 
 returns-4 : tie.Need-returns-4
 returns-4 c =
@@ -76,16 +46,16 @@ yotselina-useful-pairs-spec =
     tie.close
     (tie.spec
     returns
-    read-requires
-    of-file-requires
+    (λ c κs. search needs)
+    (λ c κs. search needs)
     returns-2
     returns-3
-    useful-pairs-requires
-    slice-aggregate-put-flags
-    put-flags-requires
-    cast-t19
-    slice-aggregate-put-numbers
-    put-numbers-requires
-    same-length
-    same-length-2
+    (λ c κs. search needs)
+    (λ c. search needs)
+    (λ c κs. search needs)
+    (λ c. search needs)
+    (λ c. search needs)
+    (λ c κs. search needs)
+    (λ c. search needs)
+    (λ c. search needs)
     returns-4)

@@ -17,29 +17,11 @@ found c = c .before .before .before .before .before .before .before
 taken : (c : tie.Else1) → fileCode (start c .args .file .now) ≡ 0
 taken c = sym (code-read _ (c .before .before .read .ensures) (c .before .of-file .ensures)) ∙ c .if1 .left
 
-read-requires : tie.Need-read-requires
-read-requires c κs = search needs
-
-of-file-requires : tie.Need-of-file-requires
-of-file-requires c κs = search needs
-
 returns : tie.Need-returns
 returns c = states-refused (code-read _ (c .before .before .read .ensures) (c .before .of-file .ensures)) (c .if1 .taken)
 
 returns-2 : tie.Need-returns-2
 returns-2 c = states-short (taken (c .before)) (c .if2 .taken)
-
-useful-states-requires : tie.Need-useful-states-requires
-useful-states-requires c κs = search needs
-
-slice-aggregate-put-flags : tie.Need-slice-aggregate-put-flags
-slice-aggregate-put-flags c = search needs
-
-put-flags-requires : tie.Need-put-flags-requires
-put-flags-requires c κs = search needs
-
-same-length : tie.Need-same-length
-same-length c = search needs
 
 returns-3 : tie.Need-returns-3
 returns-3 c =
@@ -51,12 +33,12 @@ pub yotselina-useful-states-spec : {M : Type 1} → statement M
 yotselina-useful-states-spec =
     tie.close
     (tie.spec
-    read-requires
-    of-file-requires
+    (λ c κs. search needs)
+    (λ c κs. search needs)
     returns
     returns-2
-    useful-states-requires
-    slice-aggregate-put-flags
-    put-flags-requires
-    same-length
+    (λ c κs. search needs)
+    (λ c. search needs)
+    (λ c κs. search needs)
+    (λ c. search needs)
     returns-3)

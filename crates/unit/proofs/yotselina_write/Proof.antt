@@ -29,39 +29,9 @@ accepted c = c .before .before .before
 returns : tie.Need-returns
 returns c = file-answer-short (c .if1 .taken)
 
-read-requires : tie.Need-read-requires
-read-requires c κs = search needs
-
-of-file-requires : tie.Need-of-file-requires
-of-file-requires c κs = search needs
-
 returns-2 : tie.Need-returns-2
 returns-2 c =
     file-refused (entered (c .before) .if1 .left) (code-read _ (c .before .before .read .ensures) (c .before .of-file .ensures)) (c .if2 .taken)
-
-write-requires : tie.Need-write-requires
-write-requires c κs = search needs
-
-length-requires : tie.Need-length-requires
-length-requires c κs = search needs
-
-slice-aggregate-give : tie.Need-slice-aggregate-give
-slice-aggregate-give c = search needs
-
-number-requires : tie.Need-number-requires
-number-requires c κs = search needs
-
-cast-give : tie.Need-cast-give
-cast-give c = search needs
-
-give-requires : tie.Need-give-requires
-give-requires c κs = search needs
-
-same-length : tie.Need-same-length
-same-length c = search needs
-
-same-length-2 : tie.Need-same-length-2
-same-length-2 c = search needs
 
 returns-3 : tie.Need-returns-3
 returns-3 c =
@@ -77,15 +47,15 @@ yotselina-write-spec =
     tie.close
     (tie.spec
     returns
-    read-requires
-    of-file-requires
+    (λ c κs. search needs)
+    (λ c κs. search needs)
     returns-2
-    write-requires
-    length-requires
-    slice-aggregate-give
-    number-requires
-    cast-give
-    give-requires
-    same-length
-    same-length-2
+    (λ c κs. search needs)
+    (λ c κs. search needs)
+    (λ c. search needs)
+    (λ c κs. search needs)
+    (λ c. search needs)
+    (λ c κs. search needs)
+    (λ c. search needs)
+    (λ c. search needs)
     returns-3)

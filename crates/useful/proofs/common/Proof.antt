@@ -10,7 +10,7 @@ use borrow.Author.Tests.{ltb-true, lt-ltb}
 use lib.Dec.{ltb}
 use lib.ListN.{length, getD, List·getD-eq-default}
 use Rattle.transducer.specs.Limits.{mostStates}
-use Rattle.transducer.specs.StateSet.{has, In}
+use Rattle.transducer.specs.StateSet.{In}
 use Rattle.transducer.specs.declared.StateSet.{StateSet}
 use Rattle.transducer.proofs.Bools.{le-or-lt, and-left, and-right, and-both}
 use Rattle.transducer.proofs.Facts.{in-below}
@@ -45,9 +45,6 @@ Inv-loop a b states₀ q₀ states q = Built (marked a b) states q × (q ≤ mos
 abbrev μ-loop : tie.MeasureT-loop
 μ-loop a b states₀ q₀ states q = mostStates - q
 
-empty-requires : tie.Need-empty-requires Inv-loop μ-loop
-empty-requires c κs = search needs
-
 loop-holds : tie.Need-loop-holds Inv-loop μ-loop
 loop-holds c = (rw (c .empty .ensures) built-none, omega arith)
 
@@ -65,9 +62,6 @@ shared-slice-read-if1-2 c = omega arith
 
 cast-with : tie.Need-cast-with Inv-loop μ-loop
 cast-with c = omega arith
-
-with-requires : tie.Need-with-requires Inv-loop μ-loop
-with-requires c κs = search needs
 
 add-q : tie.Need-add-q Inv-loop μ-loop
 add-q c = omega arith
@@ -95,14 +89,14 @@ common-spec =
     (tie.spec
     Inv-loop
     μ-loop
-    empty-requires
+    (λ c κs. search needs)
     loop-holds
     mul-if1
     shared-slice-read-if1
     mul-if1-2
     shared-slice-read-if1-2
     cast-with
-    with-requires
+    (λ c κs. search needs)
     add-q
     loop-less
     loop-again

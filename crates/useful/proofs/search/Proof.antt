@@ -19,21 +19,6 @@ found c = c .before .before .before .before .before
 
 -- ---- needs
 
-empty-requires : tie.Need-empty-requires
-empty-requires c κs = search needs
-
-slice-aggregate-search : tie.Need-slice-aggregate-search
-slice-aggregate-search c = search needs
-
-slice-aggregate-search-2 : tie.Need-slice-aggregate-search-2
-slice-aggregate-search-2 c = search needs
-
-slice-aggregate-search-3 : tie.Need-slice-aggregate-search-3
-slice-aggregate-search-3 c = search needs
-
-slice-aggregate-search-4 : tie.Need-slice-aggregate-search-4
-slice-aggregate-search-4 c = search needs
-
 search-requires : tie.Need-search-requires
 search-requires c κs =
     let p = empty c .before .before .before .pre in
@@ -50,9 +35,6 @@ search-requires c κs =
       },
     )
 
-same-length : tie.Need-same-length
-same-length c = search needs
-
 returns : tie.Need-returns
 returns c =
     let s = found c in
@@ -63,11 +45,11 @@ pub search-spec : {M : Type 1} → statement M
 search-spec =
     tie.close
     (tie.spec
-    empty-requires
-    slice-aggregate-search
-    slice-aggregate-search-2
-    slice-aggregate-search-3
-    slice-aggregate-search-4
+    (λ c κs. search needs)
+    (λ c. search needs)
+    (λ c. search needs)
+    (λ c. search needs)
+    (λ c. search needs)
     search-requires
-    same-length
+    (λ c. search needs)
     returns)

@@ -48,12 +48,6 @@ facts c = accepted-valid _ (is-accepted c)
 
 -- ---- needs
 
-accepted-requires : tie.Need-accepted-requires
-accepted-requires c κs = search needs
-
-empty-requires : tie.Need-empty-requires
-empty-requires c κs = search needs
-
 returns : tie.Need-returns
 returns c =
     let e = invalid (c .before .before .accepted .ensures .answer) (c .before .if1 .taken) in
@@ -64,46 +58,19 @@ returns c =
       long = rw (c .empty .ensures);
     }
 
-slice-aggregate-by-input : tie.Need-slice-aggregate-by-input
-slice-aggregate-by-input c = search needs
-
 by-input-requires : tie.Need-by-input-requires
 by-input-requires c κs = (facts (passed c), length-replicate {A = ℕ} _ 0)
 
-slice-aggregate-search : tie.Need-slice-aggregate-search
-slice-aggregate-search c = search needs
-
-slice-aggregate-search-2 : tie.Need-slice-aggregate-search-2
-slice-aggregate-search-2 c = search needs
-
 search-requires : tie.Need-search-requires
 search-requires c κs = (written c .by-input .ensures .machine, refl)
-
-slice-aggregate-by-input-reversed : tie.Need-slice-aggregate-by-input-reversed
-slice-aggregate-by-input-reversed c = search needs
 
 by-input-reversed-requires : tie.Need-by-input-reversed-requires
 by-input-reversed-requires c κs =
     let w = written (forward c .before) in
     (facts (passed (w .before)), w .by-input .ensures .machine .long)
 
-slice-aggregate-search-3 : tie.Need-slice-aggregate-search-3
-slice-aggregate-search-3 c = search needs
-
-slice-aggregate-search-4 : tie.Need-slice-aggregate-search-4
-slice-aggregate-search-4 c = search needs
-
 search-requires-2 : tie.Need-search-requires-2
 search-requires-2 c κs = (reversed c .by-input-reversed .ensures .machine, refl)
-
-slice-aggregate-common : tie.Need-slice-aggregate-common
-slice-aggregate-common c = search needs
-
-slice-aggregate-common-2 : tie.Need-slice-aggregate-common-2
-slice-aggregate-common-2 c = search needs
-
-common-requires : tie.Need-common-requires
-common-requires c κs = search needs
 
 returns-2 : tie.Need-returns-2
 returns-2 c =
@@ -124,20 +91,20 @@ pub useful-states-spec : {M : Type 1} → statement M
 useful-states-spec =
     tie.close
     (tie.spec
-    accepted-requires
-    empty-requires
+    (λ c κs. search needs)
+    (λ c κs. search needs)
     returns
-    slice-aggregate-by-input
+    (λ c. search needs)
     by-input-requires
-    slice-aggregate-search
-    slice-aggregate-search-2
+    (λ c. search needs)
+    (λ c. search needs)
     search-requires
-    slice-aggregate-by-input-reversed
+    (λ c. search needs)
     by-input-reversed-requires
-    slice-aggregate-search-3
-    slice-aggregate-search-4
+    (λ c. search needs)
+    (λ c. search needs)
     search-requires-2
-    slice-aggregate-common
-    slice-aggregate-common-2
-    common-requires
+    (λ c. search needs)
+    (λ c. search needs)
+    (λ c κs. search needs)
     returns-2)

@@ -11,9 +11,6 @@ use Rattle.words.proofs.Stripped.{Stripped, stripped, compareRests, unm
 use Rattle.words.proofs.unmatched.Statement.{statement}
 use Rattle.words.proofs.unmatched.Tie as tie
 
-shared-requires : tie.Need-shared-requires
-shared-requires c κs = search needs
-
 -- x, y and what is known of them once `shared` has returned
 abbrev X : tie.After-shared → List ℕ
 X p = p .before .before .before .args .x .now
@@ -37,24 +34,6 @@ alone-shown : {A : Type 0} (l : List ℕ) (x y : A) → ofAhead (compareRests l 
 alone-shown [] x y = refl
 alone-shown (a ∷ l) x y = refl
 
-sub-result : tie.Need-sub-result
-sub-result c = search needs
-
-part-result-start : tie.Need-part-result-start
-part-result-start c = search needs
-
-part-result-end : tie.Need-part-result-end
-part-result-end c = search needs
-
-sub-result-2 : tie.Need-sub-result-2
-sub-result-2 c = search needs
-
-part-result-start-2 : tie.Need-part-result-start-2
-part-result-start-2 c = search needs
-
-part-result-end-2 : tie.Need-part-result-end-2
-part-result-end-2 c = search needs
-
 sub-result-3 : tie.Need-sub-result-3
 sub-result-3 c =
     let k = known (c .before) in
@@ -64,9 +43,6 @@ part-result-start-3 : tie.Need-part-result-start-3
 part-result-start-3 c =
     let k = known (c .before) in
     omega arith
-
-part-result-end-3 : tie.Need-part-result-end-3
-part-result-end-3 c = search needs
 
 -- both go on: the empty part of x where they clash
 returns : tie.Need-returns
@@ -97,16 +73,16 @@ pub unmatched-spec : {M : Type 1} → statement M
 unmatched-spec =
     tie.close
     (tie.spec
-    shared-requires
-    sub-result
-    part-result-start
-    part-result-end
-    sub-result-2
-    part-result-start-2
-    part-result-end-2
+    (λ c κs. search needs)
+    (λ c. search needs)
+    (λ c. search needs)
+    (λ c. search needs)
+    (λ c. search needs)
+    (λ c. search needs)
+    (λ c. search needs)
     sub-result-3
     part-result-start-3
-    part-result-end-3
+    (λ c. search needs)
     returns
     returns-2
     returns-3)

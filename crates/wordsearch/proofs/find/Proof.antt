@@ -23,20 +23,8 @@ searched c = c .before .before .before .before .before .before
 
 -- ---- needs
 
-slice-aggregate-by-input : tie.Need-slice-aggregate-by-input
-slice-aggregate-by-input c = search needs
-
 by-input-requires : tie.Need-by-input-requires
 by-input-requires c κs = (start c .pre .0, length-replicate {A = ℕ} _ 0)
-
-slice-aggregate-search : tie.Need-slice-aggregate-search
-slice-aggregate-search c = search needs
-
-slice-aggregate-search-2 : tie.Need-slice-aggregate-search-2
-slice-aggregate-search-2 c = search needs
-
-slice-aggregate-search-3 : tie.Need-slice-aggregate-search-3
-slice-aggregate-search-3 c = search needs
 
 search-requires : tie.Need-search-requires
 search-requires c κs =
@@ -54,12 +42,6 @@ search-requires c κs =
       },
     )
 
-same-length : tie.Need-same-length
-same-length c = search needs
-
-same-length-2 : tie.Need-same-length-2
-same-length-2 c = search needs
-
 returns : tie.Need-returns
 returns c =
     let s = searched c in
@@ -70,12 +52,12 @@ pub find-spec : {M : Type 1} → statement M
 find-spec =
     tie.close
     (tie.spec
-    slice-aggregate-by-input
+    (λ c. search needs)
     by-input-requires
-    slice-aggregate-search
-    slice-aggregate-search-2
-    slice-aggregate-search-3
+    (λ c. search needs)
+    (λ c. search needs)
+    (λ c. search needs)
     search-requires
-    same-length
-    same-length-2
+    (λ c. search needs)
+    (λ c. search needs)
     returns)

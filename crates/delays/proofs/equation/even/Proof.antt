@@ -25,18 +25,6 @@ right-is c = c .count2 .ensures ∙ ap (countAt (start c .args .written .now)) (
 few : (right : Bool) (c : tie.After-count2) → let a = start c .args in countAt (a .written .now) (takenOf right (a .label)) ≤ mostOutputs
 few right c = start c .pre .0 .few _ (taken-small right _ (start c .pre .1 .0))
 
-taken-requires : tie.Need-taken-requires
-taken-requires c κs = search needs
-
-count-requires : tie.Need-count-requires
-count-requires c κs = search needs
-
-taken-requires-2 : tie.Need-taken-requires-2
-taken-requires-2 c κs = search needs
-
-count-requires-2 : tie.Need-count-requires-2
-count-requires-2 c κs = search needs
-
 add-result : tie.Need-add-result
 add-result c = omega (arith, left-is c, few false c, start c .pre .1 .1 .0)
 
@@ -53,10 +41,10 @@ pub even-spec : {M : Type 1} → statement M
 even-spec =
     tie.close
     (tie.spec
-    taken-requires
-    count-requires
-    taken-requires-2
-    count-requires-2
+    (λ c κs. search needs)
+    (λ c κs. search needs)
+    (λ c κs. search needs)
+    (λ c κs. search needs)
     add-result
     add-result-2
     returns)

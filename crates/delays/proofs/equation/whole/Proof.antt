@@ -57,9 +57,6 @@ shared-slice-read-taken c =
     let l = c .before .before in
     omega (arith, l .loop .inv .0 .here .inside, start l .pre .0 .links .long-label)
 
-taken-requires : tie.Need-taken-requires Inv-loop μ-loop
-taken-requires c κs = search needs
-
 put-requires : tie.Need-put-requires Inv-loop μ-loop
 put-requires c κs =
     let i = c .before .before .before in
@@ -116,7 +113,7 @@ whole-spec =
     loop-holds
     mul-taken
     shared-slice-read-taken
-    taken-requires
+    (λ c κs. search needs)
     put-requires
     cast-node
     sub-node

@@ -99,9 +99,6 @@ target-requires c κs =
     let m = s .measured .machine in
     (m, (m, (s .inside, (omega (arith, row c .loop-test .taken), omega (arith, c .loop2-test .taken)))))
 
-cast-j : tie.Need-cast-j Inv-loop2 μ-loop2 Inv-loop μ-loop
-cast-j c = search needs
-
 label-requires : tie.Need-label-requires Inv-loop2 μ-loop2 Inv-loop μ-loop
 label-requires c κs = tt
 
@@ -203,7 +200,7 @@ all-spec =
     first-step-requires
     loop2-holds
     target-requires
-    cast-j
+    (λ c. search needs)
     label-requires
     passes-requires
     same-length

@@ -23,52 +23,22 @@ loop-holds : tie.Need-loop-holds Inv-loop μ-loop
 unfolding firsts
 loop-holds c = (refl, refl, omega arith)
 
-add-t7 : tie.Need-add-t7 Inv-loop μ-loop
-add-t7 c = search needs
-
-mul-t8 : tie.Need-mul-t8 Inv-loop μ-loop
-mul-t8 c = search needs
-
-array-read-t11 : tie.Need-array-read-t11 Inv-loop μ-loop
-array-read-t11 c = search needs
-
 cast-t12 : tie.Need-cast-t12 Inv-loop μ-loop
 cast-t12 c = omega (arith, c .before .before .pre .small (4 + c .before .loop .j))
-
-array-set-from-output : tie.Need-array-set-from-output Inv-loop μ-loop
-array-set-from-output c = search needs
-
-add-j : tie.Need-add-j Inv-loop μ-loop
-add-j c = search needs
-
-loop-less : tie.Need-loop-less Inv-loop μ-loop
-loop-less c = search needs
 
 loop-again : tie.Need-loop-again Inv-loop μ-loop
 loop-again c =
     let l = c .before .loop in
     (output-turn (c .before .before .args .t1) (l .output) (l .j) (omega arith) (l .inv .0), simp length-set (l .inv .1), omega arith)
 
-array-read-t18 : tie.Need-array-read-t18 Inv-loop μ-loop
-array-read-t18 c = search needs
-
 cast-t19 : tie.Need-cast-t19 Inv-loop μ-loop
 cast-t19 c = omega (arith, c .before .before .pre .small 0)
-
-array-read-t22 : tie.Need-array-read-t22 Inv-loop μ-loop
-array-read-t22 c = search needs
 
 cast-t23 : tie.Need-cast-t23 Inv-loop μ-loop
 cast-t23 c = omega (arith, c .before .before .pre .small 1)
 
-array-read-t26 : tie.Need-array-read-t26 Inv-loop μ-loop
-array-read-t26 c = search needs
-
 cast-t27 : tie.Need-cast-t27 Inv-loop μ-loop
 cast-t27 c = omega (arith, c .before .before .pre .small 2)
-
-array-read-t31 : tie.Need-array-read-t31 Inv-loop μ-loop
-array-read-t31 c = search needs
 
 cast-t32 : tie.Need-cast-t32 Inv-loop μ-loop
 cast-t32 c = omega (arith, c .before .before .pre .small 3)
@@ -90,20 +60,20 @@ transition-of-spec =
     Inv-loop
     μ-loop
     loop-holds
-    add-t7
-    mul-t8
-    array-read-t11
+    (λ c. search needs)
+    (λ c. search needs)
+    (λ c. search needs)
     cast-t12
-    array-set-from-output
-    add-j
-    loop-less
+    (λ c. search needs)
+    (λ c. search needs)
+    (λ c. search needs)
     loop-again
-    array-read-t18
+    (λ c. search needs)
     cast-t19
-    array-read-t22
+    (λ c. search needs)
     cast-t23
-    array-read-t26
+    (λ c. search needs)
     cast-t27
-    array-read-t31
+    (λ c. search needs)
     cast-t32
     returns)

@@ -51,9 +51,6 @@ put-transitions-requires c κs =
     let finals = c .before .before .before in
     (from-finals finals .pre .0, part-room (finals-put finals) (omega arith))
 
-same-length : tie.Need-same-length
-same-length c = search needs
-
 returns : tie.Need-returns
 returns c =
     let end = c .before .before in
@@ -67,5 +64,5 @@ put-file-spec =
     put-states-requires
     put-states-requires-2
     put-transitions-requires
-    same-length
+    (λ c. search needs)
     returns)

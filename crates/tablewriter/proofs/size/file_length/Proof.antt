@@ -5,37 +5,10 @@ use Rattle.tablewriter.proofs.LengthLaws.{size-most, few-outputs, writt
 use Rattle.tablewriter.proofs.size.file_length.Statement.{statement}
 use Rattle.tablewriter.proofs.size.file_length.Tie as tie
 
-count-states-requires : tie.Need-count-states-requires
-count-states-requires c κs = search needs
-
-count-states-requires-2 : tie.Need-count-states-requires-2
-count-states-requires-2 c κs = search needs
-
 add-states : tie.Need-add-states
 add-states c =
     let t = c .before .before .args .t in
     omega (arith, size-most (t .starts), size-most (t .finals))
-
-cast-records : tie.Need-cast-records
-cast-records c = search needs
-
-add-records : tie.Need-add-records
-add-records c = search needs
-
-mul-result : tie.Need-mul-result
-mul-result c = search needs
-
-cast-result : tie.Need-cast-result
-cast-result c = search needs
-
-mul-result-2 : tie.Need-mul-result-2
-mul-result-2 c = search needs
-
-add-result : tie.Need-add-result
-add-result c = search needs
-
-count-outputs-requires : tie.Need-count-outputs-requires
-count-outputs-requires c κs = search needs
 
 mul-result-3 : tie.Need-mul-result-3
 mul-result-3 c =
@@ -60,16 +33,16 @@ pub file-length-spec : {M : Type 1} → statement M
 file-length-spec =
     tie.close
     (tie.spec
-    count-states-requires
-    count-states-requires-2
+    (λ c κs. search needs)
+    (λ c κs. search needs)
     add-states
-    cast-records
-    add-records
-    mul-result
-    cast-result
-    mul-result-2
-    add-result
-    count-outputs-requires
+    (λ c. search needs)
+    (λ c. search needs)
+    (λ c. search needs)
+    (λ c. search needs)
+    (λ c. search needs)
+    (λ c. search needs)
+    (λ c κs. search needs)
     mul-result-3
     add-result-2
     returns)
