@@ -4,8 +4,12 @@ use Rattle.unit.proofs.CallLaws.{verdict-short, verdict-answered}
 use Rattle.unit.proofs.yotselina_verdict.Statement.{statement}
 use Rattle.unit.proofs.yotselina_verdict.Tie as tie
 
+-- places: the buffer for path B is back, the file is judged, the answer list is long enough
+abbrev part-b : tie.After-slice-known11 → tie.After-path-b
+part-b c = c .before .before .before .before .before
+
 abbrev judged : tie.After-slice-known11 → tie.After-judge
-judged c = c .before .before .before .before .before .before .before .before .before .before
+judged c = part-b c .before .before .before .before .before
 
 abbrev entered : tie.After-judge → tie.Else1
 entered c = c .before .before .before .before .before .before
