@@ -213,6 +213,8 @@ fn translations() -> Vec<(&'static str, Translations)> {
         lengths("32 states at every position, lines that read nothing", silent(), 1),
     ];
     let longest = vec![
+        ("cycles of 15 and 17, 8 lines each", cycles(15, 17, 8), word(1, 255)),
+        ("cycles of 15 and 17, 1 line each", cycles(15, 17, 1), word(1, 255)),
         ("dense, 16 states all to all, 1 input", dense(16, 1), word(1, 255)),
         ("dense, 32 states, 2 inputs", dense(32, 2), word(2, 255)),
         ("dense, 32 states, 8 inputs", dense(32, 8), word(8, 255)),
@@ -221,7 +223,7 @@ fn translations() -> Vec<(&'static str, Translations)> {
         ("delayed by 960 codes, 1 line each", delayed(8, 1), delayed_word(8)),
     ];
     let small = vec![("one state, no lines", one_state(), word(1, 0)), ("D", d([5, 6]), word(2, 2))];
-    vec![("Small tables of document 01", small), ("Growth with the word", growth.concat()), ("Dense and delayed", longest)]
+    vec![("Small tables of document 01", small), ("Growth with the word", growth.concat()), ("Cycles, dense and delayed", longest)]
 }
 
 fn translation_row(name: &str, table: Table, word: &[u8], repetitions: usize, buffers: &mut Buffers) -> Row {
