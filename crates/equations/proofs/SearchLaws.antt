@@ -17,7 +17,7 @@ use Rattle.transducer.specs.declared.Transducer.{Transducer}
 use Rattle.product.specs.Numbers.{mostPairs, pairOf, noTransition, sides, labelOf, stepOf, Moves}
 use Rattle.product.specs.Machine.{ImageOf}
 use Rattle.product.proofs.ImageLaws.{steps-move, move-steps}
-use Rattle.product.proofs.StepLaws.{target-low}
+use Rattle.product.proofs.TargetLaws.{target-low}
 use Rattle.product.proofs.LabelLaws.{edge-number, label-low}
 use Rattle.product.proofs.LabelLaws.{both-label, left-label, right-label}
 use Rattle.pairs.specs.Ways.{Useful}

@@ -1,113 +1,16 @@
--- Laws of the steps of a pair: how the loops along the transitions of a state go on; which steps a row has; and how a caller's two loops, over the rows
--- and over the steps of a row, pass all labels in order. A row is the steps that take one transition on the left side, or those in which the left
--- side rests. Assumes nothing.
+-- Laws of the steps of a pair: which steps a row has, and how a caller's two loops, over the rows and over the steps of a row, pass all labels in
+-- order. A row is the steps that take one transition on the left side, or those in which the left side rests. Assumes nothing.
 use mathlib.Core.Path.{_≡_, refl, sym, ap, _∙_}
 use mathlib.Core.List.{List}
 use mathlib.Core.Logic.{_≢_}
 use Prim.Native.Nat.{ℕ, _+_, _-_, _/_, _%_, _≤_, _<_}
-use native.Mathlib.Decide.{decLt, ℕ-discrete}
+use native.Mathlib.Decide.{decLt}
 use native.Mathlib.Omega.{arith}
 use borrow.Author.Tests.{eq-eqb, ne-eqb}
-use Rattle.transducer.specs.Limits.{mostStates}
-use Rattle.product.specs.Machine.{headOf, toOf, keyOf, nextOf, Leaves, Follows, Along, Machine}
-use Rattle.product.specs.Numbers.{noTransition, mostPairs, pairOf, firstOf, secondOf, sides, labelOf, Label}
-use Rattle.product.specs.Steps.{sideOf, rowKey, Keyed, pastLast, Least, RowFrom, Steps, targetOf, StepFrom}
+use Rattle.product.specs.Machine.{keyOf, Leaves, Along, Machine}
+use Rattle.product.specs.Numbers.{noTransition, firstOf, secondOf, sides, labelOf, Label}
+use Rattle.product.specs.Steps.{rowKey, Keyed, pastLast, Least, RowFrom, Steps, StepFrom}
 use Rattle.product.specs.Steps.Steps.{by-both, by-left, by-right}
-
--- ---- along the transitions of a state
-
-module _ {m : List ℕ} (machine : Machine m) where
-  -- a loop along the transitions that leave q begins with the first of them
-  pub head-follows : {q r : ℕ} → q < mostStates → r ≡ headOf m q → Follows m q 0 r
-  head-follows {q} h e = rw e (machine .heads q h)
-
-  pub along-head : {q r : ℕ} → q < mostStates → r ≡ headOf m q → Along m q r
-  along-head h e = let f = head-follows h e in record { most = f .most; leaves = f .leaves }
-
-  -- and goes on to the next
-  pub next-follows : {q l r : ℕ} → Along m q l → l < noTransition → r ≡ nextOf m l → Follows m q (l + 1) r
-  next-follows {q} {l} a h e = let x = a .leaves h in rw e (rw (x .source) at (machine .nexts l (x .used)))
-
-  pub along-next : {q l r : ℕ} → Along m q l → l < noTransition → r ≡ nextOf m l → Along m q r
-  along-next a h e = let f = next-follows a h e in record { most = f .most; leaves = f .leaves }
-
-  -- a search along the transitions that leave q for one that has the key: none before l has it
-  pub record Seeking (q key low l : ℕ) : Type 0 where
-    pub above : low ≤ l
-    pub most : l ≤ noTransition
-    pub leaves : l < noTransition → Leaves m l q
-    pub least : (k : ℕ) → low ≤ k → k < l → Leaves m k q → keyOf m k ≡ key → ⊥
-
-  -- it begins
-  pub seeking-first : {q key l : ℕ} → Along m q l → Seeking q key l l
-  seeking-first a = record { above = omega arith; most = a .most; leaves = a .leaves; least = λ k h b x e. omega arith }
-
-  -- it passes a transition with another key
-  pub seeking-more : {q key low l r : ℕ} → Seeking q key low l → l < noTransition → keyOf m l ≢ key → r ≡ nextOf m l
-      → Seeking q key low r × (l < r)
-  seeking-more {q} {key} {low} {l} s h n e =
-      let x = s .leaves h in
-      let f = rw (x .source) at (machine .nexts l (x .used)) in
-      rw e (
-        record {
-          above = omega (arith, s .above, f .above);
-          most = f .most;
-          leaves = f .leaves;
-          least = λ k a b y d. go k a b y d (decLt k l) (ℕ-discrete k l) f;
-        },
-        omega (arith, f .above),
-      )
-    where
-      go : (k : ℕ) → low ≤ k → k < nextOf m l → Leaves m k q → keyOf m k ≡ key → Dec (k < l) → Dec (k ≡ l) → Follows m q (l + 1) (nextOf m l) → ⊥
-      go k a b y d (yes c) _ f = s .least k a c y d
-      go k a b y d (no c) (yes g) f = n (sym (ap (keyOf m) g) ∙ d)
-      go k a b y d (no c) (no g) f = f .least k (let z : k ≡ l → ⊥ = g in omega arith) b y
-
-  -- it ends, where the key is found or no transition is left
-  pub seeking-found : {q key low l : ℕ} → Seeking q key low l → l < noTransition → keyOf m l ≡ key → Least (Keyed m q key) low l
-  seeking-found s h e =
-      record { above = s .above; most = omega (arith, s .most); has = λ z. record { leaves = s .leaves h; same = e }; none = λ k a b x. s .least k a b (x .leaves) (x .same) }
-
-  pub seeking-none : {q key low l : ℕ} → Seeking q key low l → noTransition ≤ l → Least (Keyed m q key) low pastLast
-  seeking-none {q} {key} {low} {l} s h =
-      record {
-        above = omega (arith, s .above, s .most);
-        most = omega arith;
-        has = λ z. absurd (omega arith);
-        none = λ k a b x. s .least k a (omega (arith, x .leaves .used, machine .few)) (x .leaves) (x .same);
-      }
-
-  -- what comes before the first transition of a state, and what comes between two that follow each other, has no key
-  pub keyed-from : {q key low l r : ℕ} → Follows m q low l → Least (Keyed m q key) l r → Least (Keyed m q key) low r
-  keyed-from {q} {key} {low} {l} {r} f x =
-      record { above = omega (arith, f .above, x .above); most = x .most; has = x .has; none = λ k a b y. go k a b y (decLt k l) }
-    where
-      go : (k : ℕ) → low ≤ k → k < r → Keyed m q key k → Dec (k < l) → ⊥
-      go k a b y (yes c) = f .least k a c (y .leaves)
-      go k a b y (no c) = x .none k (omega arith) b y
-
-  -- the transitions that leave a state are rows, and the last row comes after them
-  row-follows : {q low r : ℕ} → Follows m q low r → Least (Along m q) low r
-  row-follows f =
-      record {
-        above = f .above;
-        most = omega (arith, f .most);
-        has = λ z. record { most = f .most; leaves = f .leaves };
-        none = λ l a b x. f .least l a b (x .leaves (omega (arith, f .most)));
-      }
-
-  -- the first row
-  pub row-head : {q r : ℕ} → q < mostStates → r ≡ headOf m q → Least (Along m q) 0 r
-  row-head h e = row-follows (head-follows h e)
-
-  -- the next row, and past the row in which the left side rests none
-  pub row-next : {q l r : ℕ} → Along m q l → l < noTransition → r ≡ nextOf m l → Least (Along m q) (l + 1) r
-  row-next a h e = row-follows (next-follows a h e)
-
-  pub row-end : {q l : ℕ} → l ≡ noTransition → Least (Along m q) (l + 1) pastLast
-  row-end e = record { above = omega arith; most = omega arith; has = λ z. absurd (omega arith); none = λ k a b x. omega (arith, x .most) }
-
--- ---- the steps by their labels
 
 -- where the left side takes l the right side steps beside its key
 pub key-taken : (m : List ℕ) (l : ℕ) → l < noTransition → rowKey m l ≡ keyOf m l
@@ -266,61 +169,3 @@ module _ {left right : List ℕ} where
     -- when it ends all steps have a lower label
     pub past-last-row : {u k row : ℕ} → pastLast ≤ row → Steps left right u k → k < labelOf row 0
     past-last-row h s = omega (arith, step-label on-left on-right s .0)
-
--- ---- where a step leads
-
--- a side that takes l enters the state to which l leads, and one that rests stays
-side-takes : (m : List ℕ) (q l : ℕ) → l < noTransition → sideOf m q l ≡ toOf m l
-unfolding sideOf
-side-takes m q l h = rw (ne-eqb l noTransition (λ z. omega arith))
-
-side-rests : (m : List ℕ) (q : ℕ) → sideOf m q noTransition ≡ q
-unfolding sideOf
-side-rests m q = refl
-
--- where the step leads that takes l on the left side and m on the right
-pub target-sides : (left right : List ℕ) (u l m : ℕ) → m ≤ noTransition
-    → targetOf left right u (labelOf l m) ≡ pairOf (sideOf left (firstOf u) l) (sideOf right (secondOf u) m)
-unfolding targetOf
-target-sides left right u l m h =
-    let a : labelOf l m / sides ≡ l = omega arith in
-    let b : labelOf l m % sides ≡ m = omega arith in
-    rw (a, b)
-
-module _ (left right : List ℕ) (u k : ℕ) where
-  pub target-both : (l m : ℕ) → k ≡ labelOf l m → l < noTransition → m < noTransition → targetOf left right u k ≡ pairOf (toOf left l) (toOf right m)
-  unfolding targetOf
-  target-both l m e h h′ =
-      let a : k / sides ≡ l = omega arith in
-      let b : k % sides ≡ m = omega arith in
-      rw (a, b, side-takes left (firstOf u) l h, side-takes right (secondOf u) m h′)
-
-  pub target-left : (l : ℕ) → k ≡ labelOf l noTransition → l < noTransition → targetOf left right u k ≡ pairOf (toOf left l) (secondOf u)
-  unfolding targetOf
-  target-left l e h =
-      let a : k / sides ≡ l = omega arith in
-      let b : k % sides ≡ noTransition = omega arith in
-      rw (a, b, side-takes left (firstOf u) l h, side-rests right (secondOf u))
-
-  pub target-right : (m : ℕ) → k ≡ labelOf noTransition m → m < noTransition → targetOf left right u k ≡ pairOf (firstOf u) (toOf right m)
-  unfolding targetOf
-  target-right m e h =
-      let a : k / sides ≡ noTransition = omega arith in
-      let b : k % sides ≡ m = omega arith in
-      rw (a, b, side-rests left (firstOf u), side-takes right (secondOf u) m h)
-
-module _ {left right : List ℕ} (on-left : Machine left) (on-right : Machine right) where
-  -- each transition of a machine is below 256
-  pub left-number : {l q : ℕ} → Leaves left l q → l < noTransition
-  left-number x = omega (arith, x .used, on-left .few)
-
-  pub right-number : {m q : ℕ} → Leaves right m q → m < noTransition
-  right-number y = omega (arith, y .used, on-right .few)
-
-  -- a step leads to a pair
-  pub target-low : {u k : ℕ} → u < mostPairs → Steps left right u k → targetOf left right u k < mostPairs
-  target-low {u} {k} h (by-both l m e x y i n) =
-      rw (target-both left right u k l m e (left-number x) (right-number y))
-      (omega (arith, on-left .to-state l (x .used), on-right .to-state m (y .used)))
-  target-low {u} {k} h (by-left l e x i) = rw (target-left left right u k l e (left-number x)) (omega (arith, on-left .to-state l (x .used)))
-  target-low {u} {k} h (by-right m e y i) = rw (target-right left right u k m e (right-number y)) (omega (arith, on-right .to-state m (y .used)))

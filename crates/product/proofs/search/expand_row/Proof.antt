@@ -12,7 +12,8 @@ use Rattle.transducer.specs.declared.StateSet.{StateSet}
 use Rattle.product.specs.Numbers.{labelOf}
 use Rattle.product.specs.Steps.{pastLast, Steps}
 use Rattle.product.specs.Confined.{Ready}
-use Rattle.product.proofs.StepLaws.{target-low, past-none, past-steps}
+use Rattle.product.proofs.TargetLaws.{target-low}
+use Rattle.product.proofs.StepLaws.{past-none, past-steps}
 use Rattle.product.proofs.ConfinedLaws.{Scan, scanned-past, scanned-offer}
 use Rattle.product.proofs.search.expand_row.Statement.{statement}
 use Rattle.product.proofs.search.expand_row.Tie as tie

@@ -1,6 +1,6 @@
 -- `first_row` meets its contract. Assumes nothing.
 use native.Mathlib.Omega.{arith}
-use Rattle.product.proofs.StepLaws.{row-head}
+use Rattle.product.proofs.IndexLaws.{row-head}
 use borrow.Author.Needs.{needs}
 use Rattle.product.proofs.steps.first_row.Statement.{statement}
 use Rattle.product.proofs.steps.first_row.Tie as tie

@@ -1,6 +1,6 @@
 -- `row_after` meets its contract. Assumes nothing.
 use native.Mathlib.Omega.{arith}
-use Rattle.product.proofs.StepLaws.{row-next, row-end}
+use Rattle.product.proofs.IndexLaws.{row-next, row-end}
 use borrow.Author.Needs.{needs}
 use Rattle.product.proofs.steps.row_after.Statement.{statement}
 use Rattle.product.proofs.steps.row_after.Tie as tie
