@@ -11,7 +11,7 @@ use lib.ListN.{length, take, drop, getD, length-append}
 use lib.Seq.{take-take, take-add, drop-drop, take-append-seam, take-at, length-take-le, getD-take, ext-getD}
 use Rattle.transducer.specs.Valid.{allBelow}
 use Rattle.transducer.proofs.Bools.{all-at, all-of}
-use Rattle.delays.specs.Outputs.{Appends, HeldAt}
+use Rattle.outputs.specs.Outputs.{Appends, HeldAt}
 
 -- ---- what is written behind a part of a buffer
 

@@ -9,10 +9,10 @@ use lib.Seq.{take-take, take-append-add, take-append-le, length-take-le}
 use Rattle.transducer.specs.Limits.{mostOutputs}
 use Rattle.witness.specs.Sides.{takenOf}
 use Rattle.witness.proofs.SideLaws.{taken-small}
-use Rattle.delays.specs.Outputs.{codesAt, Appends}
+use Rattle.outputs.specs.Outputs.{codesAt, Appends}
 use Rattle.delays.specs.WaysOut.{mostWay, Links, Lists, Led, wordOut, GapIs}
 use Rattle.delays.specs.Needs.{lackOf, needsOf}
-use Rattle.delays.proofs.OutputLaws.{length-codes}
+use Rattle.outputs.proofs.OutputLaws.{length-codes}
 use Rattle.delays.proofs.WayOutLaws.{Onward, onward, word-ends, word-short}
 use Rattle.delays.proofs.NeedLaws.{lack-low, needs-are}
 

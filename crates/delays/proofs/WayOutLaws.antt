@@ -17,9 +17,9 @@ use Rattle.worklist.proofs.Chains.{chain-more, chain-none, way-is}
 use Rattle.product.specs.Numbers.{mostPairs, Label}
 use Rattle.witness.specs.Sides.{takenOf}
 use Rattle.witness.proofs.SideLaws.{taken-small}
-use Rattle.delays.specs.Outputs.{countAt, codesAt}
+use Rattle.outputs.specs.Outputs.{countAt, codesAt}
 use Rattle.delays.specs.WaysOut.{mostWay, level, Links, Lists, Led, writtenOn, wordOut, GapIs, Placed, Order, Gaps, Grounds}
-use Rattle.delays.proofs.OutputLaws.{length-codes}
+use Rattle.outputs.proofs.OutputLaws.{length-codes}
 
 -- where a link leads on from v: the next pair
 pub record Onward (link label written : List ℕ) (v next : ℕ) : Type 0 where

@@ -10,7 +10,7 @@ use Rattle.worklist.specs.Search.{Chain}
 use Rattle.worklist.specs.Links.{wayFrom}
 use Rattle.product.specs.Numbers.{mostPairs, Label}
 use Rattle.witness.specs.Sides.{takenOf}
-use Rattle.delays.specs.Outputs.{codesAt, Outputs}
+use Rattle.outputs.specs.Outputs.{codesAt, Outputs}
 
 -- a way out has fewer steps than there are pairs, and one side of it at most so many codes
 abbrev pub mostWay : ℕ

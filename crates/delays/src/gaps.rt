@@ -5,7 +5,6 @@ ghost use Prim.Native.Nat.{ℕ, _-_};
 ghost use lib.ListN.{length, getD};
 ghost use Rattle.product.specs.Numbers.{mostPairs};
 ghost use Rattle.delays.specs.WaysOut.{Lists, Led, GapIs, Order, Gaps};
-use crate::outputs;
 use product::steps::PAIRS;
 use transducer::limits;
 

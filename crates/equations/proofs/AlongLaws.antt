@@ -13,7 +13,7 @@ use Rattle.transducer.specs.declared.StateSet.{StateSet}
 use Rattle.transducer.proofs.Bools.{and-left}
 use Rattle.product.specs.Numbers.{mostPairs}
 use Rattle.witness.specs.Sides.{takenOf}
-use Rattle.delays.specs.Outputs.{countAt, Appends}
+use Rattle.outputs.specs.Outputs.{countAt, Appends}
 use Rattle.delays.specs.WaysOut.{level, Led, wordOut}
 use Rattle.delays.specs.Needs.{mostWord, WayHeld}
 use Rattle.delays.proofs.WayOutLaws.{Onward, onward, gap-ends, word-short}

@@ -22,7 +22,7 @@ use Rattle.witness.specs.Walk.{walkOf, sideOf, outputOut}
 use Rattle.witness.specs.Sides.{takenOf}
 use Rattle.witness.proofs.SideLaws.{side-cons, taken-small}
 use Rattle.witness.proofs.Fronts.{same-bytes}
-use Rattle.delays.specs.Outputs.{codesAt, OutputsOf}
+use Rattle.outputs.specs.Outputs.{codesAt, OutputsOf}
 use Rattle.delays.specs.WaysOut.{Links, Led, writtenOn, wordOut}
 use Rattle.delays.specs.Needs.{needed, needsOf, StepHolds}
 use Rattle.equations.proofs.Equations.{Holds, lacks}

@@ -23,7 +23,7 @@ use Rattle.product.proofs.LabelLaws.{both-label, left-label, right-label}
 use Rattle.pairs.specs.Ways.{Useful}
 use Rattle.pairs.specs.declared.UsefulPairs.{UsefulPairs}
 use Rattle.witness.proofs.Fronts.{same-bytes}
-use Rattle.delays.specs.Outputs.{Outputs, OutputsOf}
+use Rattle.outputs.specs.Outputs.{Outputs, OutputsOf}
 use Rattle.delays.specs.WaysOut.{level, Lists, wordOut, Placed, Order, Gaps, Grounds}
 use Rattle.delays.specs.Needs.{StepHolds}
 use Rattle.delays.proofs.WayOutLaws.{placed-more, grounds, gap-there}

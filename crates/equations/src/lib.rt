@@ -18,7 +18,6 @@ pub mod way;
 
 use delays::equation;
 use delays::gaps;
-use delays::outputs;
 use pairs::UsefulPairs;
 use product::steps::NO_STEP;
 use product::steps::PAIRS;

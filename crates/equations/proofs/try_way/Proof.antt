@@ -9,7 +9,7 @@ use lib.ListN.{length, getD}
 use Rattle.product.specs.Numbers.{mostPairs}
 use Rattle.witness.specs.Sides.{takenOf}
 use Rattle.witness.proofs.SideLaws.{taken-small}
-use Rattle.delays.specs.Outputs.{countAt}
+use Rattle.outputs.specs.Outputs.{countAt}
 use Rattle.worklist.specs.Links.{wayFrom}
 use Rattle.delays.specs.Needs.{mostWord}
 use Rattle.delays.proofs.WayOutLaws.{Onward}

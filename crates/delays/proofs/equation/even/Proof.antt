@@ -6,7 +6,7 @@ use native.Mathlib.Omega.{arith}
 use borrow.Author.Tests.{eqb-true, eq-eqb}
 use Rattle.transducer.specs.Limits.{mostOutputs}
 use Rattle.witness.specs.Sides.{takenOf}
-use Rattle.delays.specs.Outputs.{countAt}
+use Rattle.outputs.specs.Outputs.{countAt}
 use Rattle.witness.proofs.SideLaws.{taken-small}
 use borrow.Author.Needs.{needs}
 use Rattle.delays.proofs.equation.even.Statement.{statement}

@@ -17,8 +17,8 @@ use Rattle.transducer.proofs.Bools.{le-or-lt, and-left, and-right, and-both, al
 use Rattle.transducer.proofs.SizeLaws.{length-firsts}
 use Rattle.transducer.proofs.LineLaws.{getD-firsts}
 use Rattle.product.specs.Numbers.{noTransition}
-use Rattle.delays.specs.Outputs.{entry, countAt, codesAt, Outputs, Appends}
-use Rattle.delays.proofs.OutputLaws.{firsts-same, length-codes, take-firsts}
+use Rattle.outputs.specs.Outputs.{entry, countAt, codesAt, Outputs, Appends}
+use Rattle.outputs.proofs.OutputLaws.{firsts-same, length-codes, take-firsts}
 
 -- ---- the loops of `put` and `copy`
 
