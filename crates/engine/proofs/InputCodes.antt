@@ -9,7 +9,7 @@ use Rattle.transducer.specs.Valid.{Valid}
 use Rattle.transducer.specs.Paths.{Path, here, step, reads}
 use Rattle.transducer.specs.declared.InputCode.{InputCode}
 use Rattle.transducer.specs.declared.Transducer.{Transducer}
-use Rattle.translator.proofs.TranslationLaws.{InRange}
+use Rattle.transducer.proofs.CodeLaws.{InRange}
 
 -- the empty word has no codes
 none-in-range : (input : List ℕ) → [] ≡ wordOf input → InRange input

@@ -2,6 +2,7 @@
 pub mod Bools
 pub mod Facts
 pub mod AcceptedLaws
+pub mod CodeLaws
 pub mod StateSetLaws
 pub mod PathLaws
 pub mod FunctionalLaws

@@ -5,6 +5,7 @@ pub mod StateSet
 pub mod Transition
 pub mod Blank
 pub mod Valid
+pub mod Codes
 pub mod Accepted
 pub mod Lines
 pub mod Paths

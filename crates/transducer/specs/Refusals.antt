@@ -1,4 +1,5 @@
--- The numbers of the refusals (document 01, "What a refused call hands over"), and the one that the library adds. Each stands here once.
+-- The numbers of the refusals: those of document 01, "What a refused call hands over", from 13 on those of document 02, and the one that the library
+-- adds. Each stands here once.
 use Prim.Native.Nat.{ℕ}
 
 -- the text ends inside a record or before it
@@ -49,6 +50,14 @@ unread = 11
 abbrev pub tooLong : ℕ
 tooLong = 12
 
--- an answer list is too short: a refusal of the library's, which document 01 does not have
+-- an input word or an output word is too long for the word test
+abbrev pub wordsTooLong : ℕ
+wordsTooLong = 13
+
+-- a byte of an output word is no output code
+abbrev pub noOutputCode : ℕ
+noOutputCode = 14
+
+-- an answer list is too short: a refusal of the library's, which the documents do not have
 abbrev pub answerTooShort : ℕ
 answerTooShort = 100

@@ -18,6 +18,10 @@ OutputWord = List OutputCode
 abbrev pub wordOf : List ℕ → InputWord
 wordOf numbers = map (λ (n : ℕ). record { 0 = n }) numbers
 
+-- the output word whose codes are these numbers
+abbrev pub outputWordOf : List ℕ → OutputWord
+outputWordOf numbers = map (λ (n : ℕ). record { 0 = n }) numbers
+
 -- the numbers of an output word's codes, as they stand in a buffer
 abbrev pub bytesOf : OutputWord → List ℕ
 bytesOf y = map (λ (c : OutputCode). c .0) y

@@ -53,9 +53,13 @@ unfoldable pub allBelow : ℕ → (ℕ → Bool) → Bool
 allBelow zero f = true
 allBelow (suc n) f = allBelow n f && f n
 
+-- the number is a code: 1 to mostCode
+abbrev pub isCode : ℕ → Bool
+isCode c = leb 1 c && leb c mostCode
+
 -- place j of an output: below the count a code, from there on 0
 unfoldable pub codeOf : Transition → ℕ → Bool
-codeOf v j = cond (ltb j (v .count)) (leb 1 (codeAt v j) && leb (codeAt v j) mostCode) (eqb (codeAt v j) 0)
+codeOf v j = cond (ltb j (v .count)) (isCode (codeAt v j)) (eqb (codeAt v j) 0)
 
 -- every place of it
 unfoldable pub codesOf : Transition → Bool

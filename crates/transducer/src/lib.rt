@@ -1,11 +1,12 @@
-// A finite transducer (document 01: a table) as a value: its types, its sets of states, the blank transducer and the test of its rules.
-// The contracts cite specs/StateSet.antt, specs/Valid.antt and specs/Accepted.antt. What a transducer means, its paths and its relation, is in specs/Paths.antt
-// and the files after it, which the crates above cite.
+// A finite transducer (document 01: a table) as a value: its types, its sets of states, the blank transducer, the test of its rules, and the test of
+// a word's bytes. The contracts cite specs/StateSet.antt, specs/Valid.antt, specs/Codes.antt and specs/Accepted.antt. What a transducer means, its paths
+// and its relation, is in specs/Paths.antt and the files after it, which the crates above cite.
 ghost use mathlib.Core.Path.{_≡_};
 ghost use Rattle.transducer.specs.StateSet.{has, withState, noStates};
 ghost use Rattle.transducer.specs.Blank.{clearTransition, blankTransducer};
 ghost use Rattle.transducer.specs.Accepted.{Asked};
 
+pub mod codes;
 pub mod limits;
 pub mod refusals;
 pub mod validity;

@@ -1,4 +1,5 @@
-// The numbers of the refusals (document 01, "What a refused call hands over"). Each stands here once; specs/Refusals.antt has the same numbers.
+// The numbers of the refusals: those of document 01, "What a refused call hands over", and from 13 on those of document 02. Each stands here once;
+// specs/Refusals.antt has the same numbers.
 
 // The text ends inside a record or before it.
 pub const ENDED: u8 = 1;
@@ -24,5 +25,9 @@ pub const NO_INPUT_CODE: u8 = 10;
 pub const UNREAD: u8 = 11;
 // The file is too long.
 pub const TOO_LONG: u8 = 12;
-// An answer list is too short: the library's own, which document 01 does not have.
+// An input word or an output word is too long for the word test.
+pub const WORDS_TOO_LONG: u8 = 13;
+// A byte of an output word is no output code.
+pub const NO_OUTPUT_CODE: u8 = 14;
+// An answer list is too short: the library's own, which the documents do not have.
 pub const ANSWER_TOO_SHORT: u8 = 100;

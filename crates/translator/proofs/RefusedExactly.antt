@@ -10,12 +10,13 @@ use lib.Dec.{leb}
 use lib.ListN.{length}
 use Rattle.transducer.specs.Refusals as refusal
 use Rattle.transducer.specs.Transition.{OutputWord, wordOf}
+use Rattle.transducer.specs.Codes.{allCodes}
 use Rattle.transducer.specs.Accepted.{acceptedOf}
 use Rattle.transducer.specs.Paths.{Relates, Functional}
 use Rattle.transducer.specs.declared.Transducer.{Transducer}
 use Rattle.wordsearch.specs.Limits.{mostWord, mostWritten}
 use Rattle.translator.specs.Numbers.{numberOf}
-use Rattle.translator.specs.Words.{allCodes, refusalOf}
+use Rattle.translator.specs.Words.{refusalOf}
 use Rattle.translator.specs.Translated.{Outcome, Translated}
 use Rattle.translator.specs.declared.Translation.{Translation}
 

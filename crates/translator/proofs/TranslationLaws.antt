@@ -7,22 +7,20 @@ use mathlib.Core.Logic.{_≢_}
 use Prim.Native.Nat.{ℕ, _≤_, _<_}
 use native.Mathlib.Decide.{ℕ-discrete}
 use native.Mathlib.Omega.{arith}
-use borrow.Author.Tests.{le-leb}
 use lib.Dec.{eqb}
-use lib.ListN.{length, getD}
+use lib.ListN.{length}
 use Rattle.buffers.specs.Put.{put}
 use Rattle.buffers.proofs.PutLaws.{put-none}
-use Rattle.transducer.specs.Limits.{mostCode}
 use Rattle.transducer.specs.Refusals as refusal
 use Rattle.transducer.specs.Transition.{OutputWord, wordOf, bytesOf}
 use Rattle.transducer.specs.Accepted.{acceptedOf}
 use Rattle.transducer.specs.Paths.{Relates, Functional}
 use Rattle.transducer.specs.declared.Transducer.{Transducer}
-use Rattle.transducer.proofs.Bools.{and-both, all-of}
+use Rattle.transducer.proofs.CodeLaws.{InRange, codes-exactly}
 use Rattle.transducer.proofs.SizeLaws.{length-bytes}
 use Rattle.wordsearch.specs.Limits.{mostWord, mostWritten}
 use Rattle.translator.specs.Numbers.{numberOf, lengthOf}
-use Rattle.translator.specs.Words.{codeAt, allCodes, refusalOf}
+use Rattle.translator.specs.Words.{refusalOf}
 use Rattle.translator.specs.Translated.{Outcome, Translated, Same}
 use Rattle.translator.specs.declared.Translation.{Translation}
 use Rattle.translator.specs.declared.Translation.the-variants.{Written, Invalid, WordTooLong, NoInputCode, Unread, BufferTooShort}
@@ -124,21 +122,11 @@ translated-determined f h h′ =
 
 -- ---- on a functional transducer the output is the one output of the word
 
--- every byte is an input code
-abbrev pub InRange : List ℕ → Type 0
-InRange input = (i : ℕ) → i < length input → (1 ≤ getD input i 0) × (getD input i 0 ≤ mostCode)
-
-pub codes-in-range : (input : List ℕ) → InRange input → allCodes input ≡ true
-unfolding allCodes
-codes-in-range input h =
-    all-of (length input) (codeAt input)
-    (λ i l. and-both (le-leb 1 (getD input i 0) (h i l .0)) (le-leb (getD input i 0) mostCode (h i l .1)))
-
 pub gives-the-output : {t : Transducer} {input out₀ out : List ℕ} {r : Translation} {y : OutputWord} → Functional t → acceptedOf t ≡ true
     → length input ≤ mostWord → InRange input → mostWritten ≤ length out₀ → Relates t (wordOf input) y → Translated t input out₀ out r
     → (r ≡ Written (length y)) × (out ≡ put out₀ 0 (bytesOf y))
 gives-the-output {t} {input} {out₀} {out} {r} {y} f valid short codes room a h =
-    outcome (h .answered (refusal-none t input valid short (codes-in-range input codes)))
+    outcome (h .answered (refusal-none t input valid short (codes-exactly input .1 codes)))
   where
     outcome : Outcome t input out₀ out r → (r ≡ Written (length y)) × (out ≡ put out₀ 0 (bytesOf y))
     outcome (Outcome.written {y = z} b few fits n k o) =

@@ -9,9 +9,9 @@ ghost use Rattle.transducer.specs.Transition.{bytesOf};
 ghost use Rattle.transducer.specs.Valid.{Valid};
 ghost use Rattle.wordsearch.specs.Answers.{written, Traced};
 ghost use Rattle.translator.specs.Numbers.{numberOf, lengthOf};
-ghost use Rattle.translator.specs.Words.{allCodes};
 ghost use Rattle.translator.specs.Translated.{Translated};
 use transducer::Transducer;
+use transducer::codes;
 use transducer::refusals;
 use wordsearch::limits;
 
@@ -65,7 +65,7 @@ pub fn translate(t: Transducer, input: &[u8], out: &mut [u8]) -> Translation
     if limits::WORD < input.len() {
         return Translation::WordTooLong;
     }
-    if !codes_ok(input) {
+    if !codes::all(input) {
         return Translation::NoInputCode;
     }
     let mut parent = [0u32; limits::NODES];
@@ -80,20 +80,6 @@ pub fn translate(t: Transducer, input: &[u8], out: &mut [u8]) -> Translation
     }
     write(t, &parent, &via, place, out, size);
     Translation::Written(size)
-}
-
-// Whether every byte of the word is an input code.
-fn codes_ok(input: &[u8]) -> bool
-    ensures { λ r. ⌜ r ≡ allCodes (now (input .entry)) ⌝ }
-{
-    let mut ok = true;
-    let mut i = 0;
-    while i < input.len() {
-        let code = input[i];
-        ok = ok & ((1 <= code) & (code <= transducer::limits::CODE));
-        i += 1;
-    }
-    ok
 }
 
 // The length of what the path writes along which the parents lead back from the place.

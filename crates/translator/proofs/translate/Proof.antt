@@ -48,7 +48,7 @@ facts c = accepted-valid _ (is-accepted c)
 -- past the third test the word is not refused
 passes : (c : tie.Else3) → let a = start (first c) .args in refusalOf (a .t) (a .input .now) ≡ 0
 passes c =
-    refusal-none _ _ (is-accepted (first c)) (c .before .before .if2 .left) (sym (c .before .codes-ok .ensures) ∙ not-false _ (c .if3 .left))
+    refusal-none _ _ (is-accepted (first c)) (c .before .before .if2 .left) (sym (c .before .all .ensures) ∙ not-false _ (c .if3 .left))
 
 -- ---- needs
 
@@ -62,7 +62,7 @@ returns-3 : tie.Need-returns-3
 returns-3 c =
     refuses
     (refusal-code _ _ (is-accepted (c .before .before .before)) (c .before .before .if2 .left)
-    (sym (c .before .codes-ok .ensures) ∙ not-true _ (c .if3 .taken)))
+    (sym (c .before .all .ensures) ∙ not-true _ (c .if3 .taken)))
     (λ z. omega arith)
 
 find-requires : tie.Need-find-requires
