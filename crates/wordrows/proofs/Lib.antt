@@ -1,6 +1,5 @@
 -- The laws of the search over two words.
 pub mod MarkLaws
-pub mod ListLaws
 pub mod GrowLaws
 pub mod SweepLaws
 pub mod StartLaws

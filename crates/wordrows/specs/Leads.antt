@@ -5,12 +5,14 @@ use Prim.Native.Nat.{ℕ, _+_, _≤_}
 use lib.ListN.{length}
 use Rattle.product.specs.Machine.{keyOf, toOf, Leaves, Machine}
 use Rattle.outputs.specs.Outputs.{countAt, codesAt, Outputs, HeldAt}
+use Rattle.closure.specs.Closure.{ClosureOf}
 use Rattle.wordrows.specs.Limits.{mostOutput}
 
--- what is lent: a machine, what its transitions write, and an output word that is not too long
-pub record Lent (m written output : List ℕ) : Type 0 where
+-- what is lent: a machine, what its transitions write, the closures of its states, and an output word that is not too long
+pub record Lent (m written closures output : List ℕ) : Type 0 where
   pub machine : Machine m
   pub outputs : Outputs written
+  pub closed : ClosureOf m written closures
   pub short : length output ≤ mostOutput
 
 -- transition l, whose key is `code`, leads from the state q at the position j to the state p at the position k: all that it writes stands between the

@@ -1,8 +1,8 @@
--- `expand` meets its contract. The loop's invariant: l is a transition that leaves the state q, or none is left; and those before l are done. Assumes nothing.
-use mathlib.Core.Path.{_≡_, refl, sym, _∙_}
+-- `expand` meets its contract. The loop's invariant: l is a transition that leaves the state q, or none is left; and those before l are done. Assumes
+-- nothing.
+use mathlib.Core.Path.{_≡_, sym, _∙_}
 use mathlib.Core.List.{List}
 use Prim.Native.Nat.{ℕ, _+_, _-_}
-use borrow.Author.Needs.{needs}
 use native.Mathlib.Omega.{arith}
 use Rattle.product.specs.Machine.{fromOf, Along, Leaves, Follows}
 use Rattle.product.specs.Numbers.{noTransition}
@@ -14,11 +14,11 @@ use Rattle.wordrows.proofs.expand.Statement.{statement}
 use Rattle.wordrows.proofs.expand.Tie as tie
 
 abbrev Inv-loop : tie.InvT-loop
-Inv-loop m written output code j q here₀ next₀ order₀ count n₀ l₀ here next order n l =
-    Along m q l × Expanding m written output code j q l here₀ next₀ order₀ count here next order n
+Inv-loop m written closures output code j q here₀ next₀ l₀ here next l =
+    Along m q l × Expanding m written output code j q l here₀ next₀ here next
 
 abbrev μ-loop : tie.MeasureT-loop
-μ-loop m written output code j q here₀ next₀ order₀ count n₀ l₀ here next order n l = noTransition - l
+μ-loop m written closures output code j q here₀ next₀ l₀ here next l = noTransition - l
 
 -- the places in the code
 abbrev entry : tie.After-head Inv-loop μ-loop → tie.Start Inv-loop μ-loop
@@ -27,11 +27,11 @@ entry c = c .before .before .before .before .before .before .before
 abbrev start : tie.At-loop Inv-loop μ-loop → tie.Start Inv-loop μ-loop
 start c = entry (c .before)
 
-abbrev lent : tie.After-follow-arg3 Inv-loop μ-loop → tie.In-loop Inv-loop μ-loop
-lent c = c .before .before .before
+abbrev lent : tie.After-follow-arg2 Inv-loop μ-loop → tie.In-loop Inv-loop μ-loop
+lent c = c .before .before
 
-abbrev followed : tie.After-slice-known6 Inv-loop μ-loop → tie.After-follow Inv-loop μ-loop
-followed c = c .before .before .before .before .before .before
+abbrev followed : tie.After-slice-known4 Inv-loop μ-loop → tie.After-follow Inv-loop μ-loop
+followed c = c .before .before .before .before
 
 abbrev turn : tie.After-follow Inv-loop μ-loop → tie.In-loop Inv-loop μ-loop
 turn c = lent (c .before)
@@ -40,19 +40,18 @@ turn c = lent (c .before)
 taken : (c : tie.In-loop Inv-loop μ-loop) → let a = start (c .before) .args in Leaves (a .m .now) (c .before .loop .l) (a .q)
 taken c = c .before .loop .inv .0 .leaves (c .loop-test .taken)
 
+-- that state is the one that it leaves
+still : {m here : List ℕ} {j q l : ℕ} → Leaves m l q → Marked here j q → Marked here j (fromOf m l)
+still e k = rw (e .source) k
+
 head-requires : tie.Need-head-requires Inv-loop μ-loop
-head-requires c κs =
-    let p = c .before .before .before .before .before .before .pre in (p .0 .lent .machine .long, omega (arith, p .1 .state))
+head-requires c κs = let p = c .before .before .before .before .before .before .pre in (p .0 .lent .machine .long, p .1 .state)
 
 loop-holds : tie.Need-loop-holds Inv-loop μ-loop
 loop-holds c =
     let p = entry c .pre in
     let f = head-follows (p .0 .lent .machine) (p .1 .state) (c .head .ensures) in
     (record { most = f .most; leaves = f .leaves }, expanding-none (p .0) f)
-
--- the state is marked in what the loop has left
-still : {m : List ℕ} {here : List ℕ} {j q l : ℕ} → Leaves m l q → Marked here j q → Marked here j (fromOf m l)
-still e k = rw (e .source) k
 
 follow-requires : tie.Need-follow-requires Inv-loop μ-loop
 follow-requires c κs =
@@ -82,15 +81,12 @@ loop-again c =
     let k = followed (c .before) in
     (record { most = f .most; leaves = f .leaves }, expanding-more (turn k .before .loop .inv .1) (k .follow .ensures) f)
 
--- the lists have their lengths now as at the entry
+-- the rows have their lengths now as at the entry
 same-length : tie.Need-same-length Inv-loop μ-loop
 same-length c = let l = c .before in l .loop .inv .1 .goes .grows .row .size ∙ sym (start l .pre .0 .row .size)
 
 same-length-2 : tie.Need-same-length-2 Inv-loop μ-loop
 same-length-2 c = let l = c .before in l .loop .inv .1 .goes .grows .row-next .size ∙ sym (start l .pre .0 .row-next .size)
-
-same-length-3 : tie.Need-same-length-3 Inv-loop μ-loop
-same-length-3 c = let l = c .before in l .loop .inv .1 .goes .listed .size ∙ sym (start l .pre .0 .listed .size)
 
 returns : tie.Need-returns Inv-loop μ-loop
 returns c = expanding-all (c .before .loop .inv .1) (c .loop-test .left)
@@ -109,5 +105,4 @@ expand-spec =
     loop-again
     same-length
     same-length-2
-    same-length-3
     returns)

@@ -11,21 +11,21 @@ use Rattle.wordrows.proofs.sweep.Statement.{statement}
 use Rattle.wordrows.proofs.sweep.Tie as tie
 
 abbrev Inv-loop : tie.InvT-loop
-Inv-loop m written output code here₀ next₀ j₀ here next j =
+Inv-loop m written closures output code here₀ next₀ j₀ here next j =
     Sweeping m written output code j here₀ next₀ here next
 
 abbrev μ-loop : tie.MeasureT-loop
-μ-loop m written output code here₀ next₀ j₀ here next j = length output + 1 - j
+μ-loop m written closures output code here₀ next₀ j₀ here next j = length output + 1 - j
 
 -- the places in the code
 abbrev start : tie.At-loop Inv-loop μ-loop → tie.Start Inv-loop μ-loop
-start c = c .before .before .before .before .before .before
+start c = c .before .before .before .before .before .before .before
 
 abbrev turn : tie.Joined1 Inv-loop μ-loop → tie.In-loop Inv-loop μ-loop
 turn c = c .before .before
 
 loop-holds : tie.Need-loop-holds Inv-loop μ-loop
-loop-holds c = let p = c .before .before .before .before .before .pre in sweeping-none (p .1 .1 .0) (p .1 .1 .1)
+loop-holds c = let p = c .before .before .before .before .before .before .pre in sweeping-none (p .1 .1 .0) (p .1 .1 .1)
 
 slice-read-if1 : tie.Need-slice-read-if1 Inv-loop μ-loop
 slice-read-if1 c =
@@ -37,7 +37,7 @@ cell-requires c κs =
     let t = c .before .before .before .before in
     let p = start (t .before) .pre in
     let g = t .before .loop .inv .grows in
-    (p .0, (p .1 .0, (t .loop-test .taken, (g .row, g .row-next))))
+    record { lent = p .0; some = p .1 .0; inside = omega (arith, t .loop-test .taken); row = g .row; row-next = g .row-next }
 
 add-j : tie.Need-add-j Inv-loop μ-loop
 add-j c = omega (arith, turn c .loop-test .taken, start (turn c .before) .pre .0 .short)

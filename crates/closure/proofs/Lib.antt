@@ -1,0 +1,3 @@
+-- Laws of the closures.
+pub mod FlagLaws
+pub mod PassLaws

@@ -1,0 +1,2 @@
+-- What the contracts of `closure` cite.
+pub mod Closure
