@@ -1,2 +1,2 @@
 -- How flags are cast.
-mod Flags
+pub mod Flags

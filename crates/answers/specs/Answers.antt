@@ -36,6 +36,10 @@ verdictAnswer = 7
 abbrev pub translateAnswer : ℕ
 translateAnswer = 1
 
+-- of a word test: yes or no
+abbrev pub acceptsAnswer : ℕ
+acceptsAnswer = 1
+
 -- of the useful pairs: u
 abbrev pub pairsAnswer : ℕ
 pairsAnswer = 1

@@ -14,6 +14,8 @@ use words::Comparison;
 pub const VERDICT: usize = 7;
 // The answer to a translation: a length.
 pub const TRANSLATE: usize = 1;
+// The answer to a word test: yes or no.
+pub const ACCEPTS: usize = 1;
 // The answer to the useful pairs: u.
 pub const PAIRS: usize = 1;
 // The answer to a difference: its kind and a length.

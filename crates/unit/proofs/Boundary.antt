@@ -19,9 +19,11 @@ use Rattle.engine.specs.declared.Judgement.{Judgement}
 use Rattle.engine.specs.declared.FileTranslation.{FileTranslation}
 use Rattle.engine.proofs.EngineLaws.{judged-determined, file-translated-determined}
 use Rattle.answers.specs.Answers.{refusalCode, flagOf, numbersOf, translateAnswer}
-use Rattle.unit.specs.Calls.{VerdictGiven, translateCode, TranslationGiven, Flagged, StatesGiven, PairsGiven, DifferenceGiven, FileGiven}
+use Rattle.unit.specs.Calls.{VerdictGiven, translateCode, TranslationGiven, AnswerIn, AcceptsGiven}
+use Rattle.unit.specs.Calls.{Flagged, StatesGiven, PairsGiven, DifferenceGiven, FileGiven}
 use Rattle.unit.specs.Laws.{SameVerdict, Boundary}
-use Rattle.unit.proofs.Codes.{this-one, no-room, taken-code, code-taken}
+use Rattle.unit.proofs.Codes.{this-one, no-room, taken-code, code-taken, front}
+use Rattle.unit.proofs.WordCalls.{accepts-agreement}
 
 number-told : (number at : ℕ) → number < 65536 → refusalCode number at % 65536 ≡ number
 unfolding refusalCode
@@ -52,8 +54,8 @@ unfolding put numbersOf
 front-two a j = refl
 
 front-one : (a : List ℕ) (j : Judgement) → getD (put a 0 (numbersOf j)) 0 0 ≡ flagOf (j .split)
-unfolding put numbersOf
-front-one a j = refl
+unfolding numbersOf
+front-one a j = front a _ _
 
 flag-false : (b : Bool) → flagOf b ≡ 0 → b ≡ false
 flag-false true z = absurd (omega arith)
@@ -118,6 +120,18 @@ translation-determined {out₁ = out₁} {out₂} {a} {a₁} {a₂} {r₁} {r₂
         let kept′ = k .refused (λ z. omega (arith, other)) in
         (one ∙ sym other, kept .0 ∙ sym (kept′ .0), kept .1 ∙ sym (kept′ .1))
 
+-- ---- the word test
+
+accepts-determined : {f input output a a₁ a₂ : List ℕ} {r₁ r₂ : ℕ} → AcceptsGiven f input output a a₁ r₁ → AcceptsGiven f input output a a₂ r₂
+    → (r₁ ≡ r₂) × (a₁ ≡ a₂)
+accepts-determined {f} {input} {output} {a} {a₁} {a₂} h k =
+    let same = h .code ∙ sym (k .code) in (same, same-left same (λ z z′. answers-same (h .done z) (k .done z′)) (h .refused) (k .refused))
+  where
+    answers-same : AnswerIn f input output a a₁ → AnswerIn f input output a a₂ → a₁ ≡ a₂
+    answers-same one other =
+        let yes = same-flag _ _ (λ e. other .exactly .1 (one .exactly .0 e)) (λ e. one .exactly .1 (other .exactly .0 e)) in
+        one .answer ∙ ap (λ y. put a 0 (flagOf y ∷ [])) yes ∙ sym (other .answer)
+
 -- ---- the others
 
 -- flags that say the same of each number are the same
@@ -173,6 +187,8 @@ boundary =
       taken-exactly = λ f. (code-taken f, taken-code f);
       verdict = verdict-determined;
       translation = translation-determined;
+      accepts = accepts-determined;
+      agreement = accepts-agreement;
       states = states-determined;
       pairs = pairs-determined;
       difference = difference-determined;

@@ -1,4 +1,4 @@
--- What a call returns: the first of its refusals, or 0. Assumes nothing.
+-- What a call returns: the first of its refusals, or 0; and the first number that it leaves in the answer list. Assumes nothing.
 use mathlib.Core.Path.{_≡_, refl, sym, ap, _∙_}
 use mathlib.Core.List.{List, [], _∷_}
 use mathlib.Core.Logic.{_≢_}
@@ -6,7 +6,8 @@ use Prim.Native.Nat.{ℕ, _≤_, _<_}
 use native.Mathlib.Decide.{ℕ-discrete}
 use native.Mathlib.Omega.{arith}
 use borrow.Author.Tests.{eq-eqb, ne-eqb, lt-ltb, le-ltb}
-use lib.ListN.{length}
+use lib.ListN.{length, getD}
+use Rattle.buffers.specs.Put.{put}
 use Rattle.tablereader.specs.Outcome as outcome
 use Rattle.tablereader.specs.Reader.{readOf}
 use Rattle.tablereader.specs.declared.Reading.{Reading}
@@ -39,6 +40,15 @@ only-one {r} {fault} e = go (ℕ-discrete r 0)
     go : Dec (r ≡ 0) → r ≡ firstOf (fault ∷ [])
     go (yes z) = none-then _ (sym e ∙ z) (z ∙ no-more)
     go (no n) = this-one _ e n
+
+-- where it is 0 none of them is one
+pub none-of : (faults : List ℕ) {fault : ℕ} → firstOf (fault ∷ faults) ≡ 0 → (fault ≡ 0) × (firstOf faults ≡ 0)
+unfolding firstOf
+none-of faults {fault} z = go (ℕ-discrete fault 0)
+  where
+    go : Dec (fault ≡ 0) → (fault ≡ 0) × (firstOf faults ≡ 0)
+    go (yes e) = (e, none-then faults e refl ∙ z)
+    go (no n) = absurd (n (this-one faults refl n ∙ z))
 
 -- a list that has the places is no refusal
 pub room : (n : ℕ) (list : List ℕ) (fault : ℕ) → n ≤ length list → roomFault n list fault ≡ 0
@@ -74,3 +84,10 @@ code-taken f z = code-zero _ _ z
 pub code-read : (f : List ℕ) {reading : Reading} {r : ℕ} → reading ≡ readOf f
     → r ≡ refusalCode (outcome.numberOf (reading .outcome)) (outcome.recordOf (reading .outcome)) → r ≡ fileCode f
 code-read f reads e = e ∙ ap (λ (x : Reading). refusalCode (outcome.numberOf (x .outcome)) (outcome.recordOf (x .outcome))) reads
+
+-- ---- the answer list
+
+-- the first number that is put to the front of a list
+pub front : (a : List ℕ) (k : ℕ) (ks : List ℕ) → getD (put a 0 (k ∷ ks)) 0 0 ≡ k
+unfolding put
+front a k ks = refl

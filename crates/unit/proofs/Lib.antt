@@ -1,6 +1,7 @@
 -- How the contracts are met; `Boundary` is the statement of specs/Laws.antt, proved.
 mod Codes
 mod CallLaws
+mod WordCalls
 mod UsefulCalls
 mod FileCalls
 pub mod Boundary

@@ -11,16 +11,19 @@ use Rattle.words.specs.Difference.{sharedOf, differenceOf}
 use Rattle.buffers.specs.Put.{put}
 use Rattle.transducer.specs.Limits.{mostStates}
 use Rattle.transducer.specs.Refusals.{tooShort, answerTooShort}
+use Rattle.transducer.specs.Transition.{wordOf, outputWordOf}
+use Rattle.transducer.specs.Paths.{Relates}
 use Rattle.transducer.specs.Useful.{UsefulState, UsefulPair}
 use Rattle.product.specs.Numbers as pair
 use Rattle.product.specs.Numbers.{mostPairs}
+use Rattle.wordtest.specs.Words.{refusalOf}
 use Rattle.witness.specs.Showing.{Buffers}
 use Rattle.functionality.specs.Decided.{fullOf, UsefulCount}
 use Rattle.engine.specs.Engine.{tableOf, Judged, FileTranslated}
 use Rattle.engine.specs.declared.Judgement.{Judgement}
 use Rattle.engine.specs.declared.FileTranslation.{FileTranslation}
 use Rattle.answers.specs.Answers.{refusalCode, fileCode, roomFault, flagOf, kindOf, numbersOf}
-use Rattle.answers.specs.Answers.{verdictAnswer, translateAnswer, pairsAnswer, differenceAnswer, writeAnswer}
+use Rattle.answers.specs.Answers.{verdictAnswer, translateAnswer, acceptsAnswer, pairsAnswer, differenceAnswer, writeAnswer}
 
 -- the first of the faults that is one, or 0
 unfoldable pub firstOf : List ℕ → ℕ
@@ -61,6 +64,24 @@ pub record TranslationGiven (f input out out′ a a′ : List ℕ) (r : ℕ) : T
   pub code : r ≡ translateCode translation a
   pub refused : r ≢ 0 → (out′ ≡ out) × (a′ ≡ a)
   pub done : r ≡ 0 → a′ ≡ put a 0 (translation .length ∷ [])
+
+-- ---- the word test
+
+-- refused are, in this order, an answer list that is too short, the file, what the word test refuses
+unfoldable pub acceptsCode : List ℕ → List ℕ → List ℕ → List ℕ → ℕ
+acceptsCode f input output a = firstOf (roomFault acceptsAnswer a answerTooShort ∷ fileCode f ∷ refusalOf (tableOf f) input output ∷ [])
+
+-- a flag stands at the front of the answer list: yes exactly when some accepting path reads the one word and writes the other
+pub record AnswerIn (f input output a a′ : List ℕ) : Type 0 where
+  pub yes : Bool
+  pub exactly : (yes ≡ true) ↔ Relates (tableOf f) (wordOf input) (outputWordOf output)
+  pub answer : a′ ≡ put a 0 (flagOf yes ∷ [])
+
+-- what `yotselina_accepts` returns and leaves
+pub record AcceptsGiven (f input output a a′ : List ℕ) (r : ℕ) : Type 0 where
+  pub code : r ≡ acceptsCode f input output a
+  pub refused : r ≢ 0 → a′ ≡ a
+  pub done : r ≡ 0 → AnswerIn f input output a a′
 
 -- ---- useful states and useful pairs
 

@@ -1,15 +1,17 @@
--- What holds of any results that meet the contracts of specs/Calls.antt: a refusal's number and record can be told from what is returned; and what is
--- returned and left is determined, but for what document 01 leaves open. `boundary` of proofs/Boundary.antt proves it.
+-- What holds of any results that meet the contracts of specs/Calls.antt: a refusal's number and record can be told from what is returned; what is
+-- returned and left is determined, but for what document 01 leaves open; and the word test agrees with the translation. `boundary` of
+-- proofs/Boundary.antt proves it.
 use mathlib.Core.Path.{_≡_}
 use mathlib.Core.List.{List}
 use mathlib.Core.Logic.{_↔_}
-use Prim.Native.Nat.{ℕ, _<_, _/_, _%_}
-use lib.ListN.{getD, take}
+use Prim.Native.Nat.{ℕ, _≤_, _<_, _/_, _%_}
+use lib.ListN.{length, getD, take}
 use Rattle.transducer.specs.Paths.{Functional}
+use Rattle.wordsearch.specs.Limits.{mostWritten}
 use Rattle.witness.specs.Showing.{Buffers}
 use Rattle.engine.specs.Engine.{Taken, tableOf}
-use Rattle.answers.specs.Answers.{refusalCode, fileCode}
-use Rattle.unit.specs.Calls.{VerdictGiven, TranslationGiven, StatesGiven, PairsGiven, DifferenceGiven, FileGiven}
+use Rattle.answers.specs.Answers.{refusalCode, fileCode, translateAnswer}
+use Rattle.unit.specs.Calls.{VerdictGiven, TranslationGiven, acceptsCode, AcceptsGiven, StatesGiven, PairsGiven, DifferenceGiven, FileGiven}
 
 -- two verdicts are the same in all that document 01 settles
 pub record SameVerdict (b₁ b₂ : Buffers) (a₁ a₂ : List ℕ) (r₁ r₂ : ℕ) : Type 0 where
@@ -18,6 +20,12 @@ pub record SameVerdict (b₁ b₂ : Buffers) (a₁ a₂ : List ℕ) (r₁ r₂ :
   pub front : take 2 a₁ ≡ take 2 a₂
   -- which witness is shown is free; where none is, all lists are the same
   pub unless-split : (r₁ ≡ 0 → getD a₁ 0 0 ≡ 0) → (b₁ ≡ b₂) × (a₁ ≡ a₂)
+
+-- a translation is done, and its output is the word `output`: the length stands in the answer list, the codes at the front of the buffer
+pub record OutputGiven (output out′ a′ : List ℕ) (r : ℕ) : Type 0 where
+  pub done : r ≡ 0
+  pub size : getD a′ 0 0 ≡ length output
+  pub codes : take (length output) out′ ≡ output
 
 -- the laws of the exported functions
 pub record Boundary : Type 0 where
@@ -31,6 +39,13 @@ pub record Boundary : Type 0 where
   -- on a split table the path that is followed is free
   pub translation : {f input out out₁ out₂ a a₁ a₂ : List ℕ} {r₁ r₂ : ℕ} → (Taken f → Functional (tableOf f))
       → TranslationGiven f input out out₁ a a₁ r₁ → TranslationGiven f input out out₂ a a₂ r₂ → (r₁ ≡ r₂) × (out₁ ≡ out₂) × (a₁ ≡ a₂)
+  pub accepts : {f input output a a₁ a₂ : List ℕ} {r₁ r₂ : ℕ} → AcceptsGiven f input output a a₁ r₁ → AcceptsGiven f input output a a₂ r₂
+      → (r₁ ≡ r₂) × (a₁ ≡ a₂)
+  -- document 02, job 1: for a single table, yes agrees with what the translator gives when lent the full 65,528 places; for a file and words that the
+  -- word test does not refuse
+  pub agreement : {f input output a a′ out out′ b b′ : List ℕ} {r s : ℕ} → Functional (tableOf f) → acceptsCode f input output a ≡ 0
+      → mostWritten ≤ length out → translateAnswer ≤ length b → AcceptsGiven f input output a a′ r → TranslationGiven f input out out′ b b′ s
+      → (getD a′ 0 0 ≡ 1) ↔ OutputGiven output out′ b′ s
   pub states : {f flags flags₁ flags₂ : List ℕ} {r₁ r₂ : ℕ} → StatesGiven f flags flags₁ r₁ → StatesGiven f flags flags₂ r₂
       → (r₁ ≡ r₂) × (flags₁ ≡ flags₂)
   pub pairs : {f flags flags₁ flags₂ a a₁ a₂ : List ℕ} {r₁ r₂ : ℕ} → PairsGiven f flags flags₁ a a₁ r₁ → PairsGiven f flags flags₂ a a₂ r₂

@@ -4,7 +4,7 @@
 ghost use mathlib.Core.Path.{_≡_};
 ghost use Rattle.witness.specs.Showing.{buffersOf};
 ghost use Rattle.answers.specs.Answers.{fileCode};
-ghost use Rattle.unit.specs.Calls.{VerdictGiven, TranslationGiven, StatesGiven, PairsGiven, DifferenceGiven, FileGiven};
+ghost use Rattle.unit.specs.Calls.{VerdictGiven, TranslationGiven, AcceptsGiven, StatesGiven, PairsGiven, DifferenceGiven, FileGiven};
 use product::steps::PAIRS;
 use transducer::limits;
 use transducer::refusals;
@@ -71,6 +71,33 @@ pub extern "C" fn yotselina_translate(
     let translation = engine::translate_file(file, input, output);
     let numbers = [translation.length as u64];
     answers::give(answer, &numbers, translation.number, translation.record)
+}
+
+// Whether some accepting path of the transducer of a table file reads the word `input` and writes the word `output`; the answer is 1 for yes, 0 for no.
+#[no_mangle]
+pub extern "C" fn yotselina_accepts(
+    file: &[u8],
+    input: &[u8],
+    output: &[u8],
+    answer: &mut [u64],
+) -> u32
+    ensures { λ r. ⌜
+        AcceptsGiven (now (file .entry)) (now (input .entry)) (now (output .entry)) (now (answer .entry)) (now (answer .exit)) r
+        ⌝ }
+{
+    if answer.len() < answers::ACCEPTS {
+        return ANSWER_TOO_SHORT;
+    }
+    let reading = tablereader::read(file);
+    let outcome = reading.outcome;
+    let refused = answers::of_file(outcome);
+    if refused != 0 {
+        return refused;
+    }
+    let table = reading.table;
+    let acceptance = wordtest::accepts(table, input, output);
+    let numbers = [acceptance.yes() as u64];
+    answers::give(answer, &numbers, acceptance.number() as u16, 0)
 }
 
 // Puts a flag for each of limits::STATES states to the front of `flags`: whether it is useful.
