@@ -2,7 +2,7 @@
  * yotselina.h - the library that a unit links
  *
  * NAME
- *   yotselina - a transducer table: its verdict, its translations, its useful states
+ *   yotselina - a transducer table: its verdict, its translations, a test of an input word and an output word, its useful states
  *
  * SYNOPSIS
  *   #include "yotselina.h"
@@ -24,10 +24,12 @@
  *     5    the states of `S` or `F` records do not rise
  *     6    bytes follow the last record
  *     7    a lent list is too short: for the result (yotselina_translate, yotselina_write), else below its size
- *     9    the input word has over 255 codes
+ *     9    the input word has over 255 codes (yotselina_translate)
  *     10   an input code is 0 or over 250
  *     11   no accepting path reads the input word
  *     12   the file has over 13,202 bytes
+ *     13   the input word has over 63 codes, or the output word over 127 (yotselina_accepts)
+ *     14   an output code is 0 or over 250
  *     100  the list `answer` is too short
  *
  *   Checked in this order: 100; the file's refusals, from left to right: 1 to 6, then 12; then those of the call, in the order that stands
@@ -67,7 +69,7 @@ extern "C" {
 #define YOTSELINA_NUMBER(r) ((r) & 0xffff)
 #define YOTSELINA_RECORD(r) ((r) >> 16)
 
-/* The refusal of an `answer` that is too short; the other numbers are document 01's. */
+/* The refusal of an `answer` that is too short; the other numbers are those of documents 01 and 02. */
 #define YOTSELINA_ANSWER_TOO_SHORT 100
 
 /* A table: at most so many states and lines (transitions), in a file of at most so many bytes. */
@@ -75,9 +77,13 @@ extern "C" {
 #define YOTSELINA_LINES 256
 #define YOTSELINA_FILE 13202
 
-/* The longest input word, and places that hold any output of one. */
+/* The longest input word that is translated, and places that hold any output of one. */
 #define YOTSELINA_WORD 255
 #define YOTSELINA_OUTPUT 65528
+
+/* The longest input word and the longest output word that are tested. */
+#define YOTSELINA_ACCEPTS_INPUT 63
+#define YOTSELINA_ACCEPTS_OUTPUT 127
 
 /* Places that the verdict takes: for the word and for each path, and for each output. */
 #define YOTSELINA_WITNESS 2047
@@ -89,6 +95,7 @@ extern "C" {
 /* Places of each answer list. */
 #define YOTSELINA_VERDICT_ANSWER 7
 #define YOTSELINA_TRANSLATE_ANSWER 1
+#define YOTSELINA_ACCEPTS_ANSWER 1
 #define YOTSELINA_PAIRS_ANSWER 1
 #define YOTSELINA_DIFFERENCE_ANSWER 2
 #define YOTSELINA_WRITE_ANSWER 1
@@ -160,6 +167,26 @@ uint32_t yotselina_translate(const uint8_t *file, size_t file_length,
                              const uint8_t *input, size_t input_length,
                              uint8_t *output, size_t output_length,
                              uint64_t *answer, size_t answer_length);
+
+/*
+ * yotselina_accepts - does this input word give this output word?
+ *
+ *   file, file_length      the bytes of the table file
+ *   input, input_length    the codes of the input word: at most YOTSELINA_ACCEPTS_INPUT, each 1 to 250; it may be empty
+ *   output, output_length  the codes of the output word: at most YOTSELINA_ACCEPTS_OUTPUT, each 1 to 250; it may be empty
+ *   answer                 at least YOTSELINA_ACCEPTS_ANSWER places:
+ *                          [0] 1 (yes) if some accepting path reads the input word and writes the output word, all of it and no more; else 0 (no)
+ *
+ * The table may be split: yes is said of each output of the word. If it is single, yes is said of the output that yotselina_translate gives,
+ * and of no other. A word that no accepting path reads has no output, so the answer is no, whatever the output word: 11 is not given.
+ *
+ * Refusals: 100; 1 to 6, 12 with the record; 13 for either word, before any code is looked at; 10; 14.
+ * Stack: 40,960 bytes.
+ */
+uint32_t yotselina_accepts(const uint8_t *file, size_t file_length,
+                           const uint8_t *input, size_t input_length,
+                           const uint8_t *output, size_t output_length,
+                           uint64_t *answer, size_t answer_length);
 
 /*
  * yotselina_useful_states - the states that an accepting path passes through

@@ -1,8 +1,8 @@
 /*
  * Calls every function of the library as C does, and prints one line for each call; tests/linked.py runs this under valgrind and compares the lines.
  *
- *     boundary TABLE WORD [TABLE WORD ..]      files: a table file, and the codes of an input word
- *     boundary beside                          touches a place beside a list, which valgrind must see
+ *     boundary TABLE INPUT OUTPUT [..]     files: a table file, and the codes of an input word and of an output word; three for each sample
+ *     boundary beside                      touches a place beside a list, which valgrind must see
  *
  * Each list is a piece of memory of its own, of exactly the places that are lent and with no content, so that valgrind sees a place beside it that is
  * touched, a place that is used before it is written, and one that is said to be written and is not. C and C++ compile it.
@@ -130,6 +130,18 @@ static size_t translate(struct text table, struct text word, size_t places, size
     return written;
 }
 
+static void accepts(struct text table, struct text input, struct text output, size_t answers)
+{
+    uint64_t *answer = (uint64_t *)lend(answers, 8);
+    uint32_t returned = yotselina_accepts(table.bytes, table.length, input.bytes, input.length, output.bytes, output.length, answer, answers);
+    printf("accepts %zu", answers);
+    print_returned(returned);
+    if (!returned)
+        print_answer(answer, YOTSELINA_ACCEPTS_ANSWER);
+    printf("\n");
+    free(answer);
+}
+
 static size_t write_again(struct text table, size_t places, size_t answers)
 {
     uint8_t *out = (uint8_t *)lend(places, 1);
@@ -186,7 +198,7 @@ static void difference(struct text x, struct text y, size_t answers)
     free(answer);
 }
 
-static void all_calls(struct text table, struct text word)
+static void all_calls(struct text table, struct text word, struct text output)
 {
     size_t written;
     check(table);
@@ -196,6 +208,8 @@ static void all_calls(struct text table, struct text word)
     if (written)
         translate(table, word, written - 1, YOTSELINA_TRANSLATE_ANSWER);
     translate(table, word, YOTSELINA_OUTPUT, YOTSELINA_TRANSLATE_ANSWER - 1);
+    accepts(table, word, output, YOTSELINA_ACCEPTS_ANSWER);
+    accepts(table, word, output, YOTSELINA_ACCEPTS_ANSWER - 1);
     written = write_again(table, YOTSELINA_FILE, YOTSELINA_WRITE_ANSWER);
     write_again(table, written, YOTSELINA_WRITE_ANSWER);
     if (written)
@@ -213,9 +227,10 @@ static void all_calls(struct text table, struct text word)
 /* The numbers of the header; the last is the number returned for an answer list that is too short. */
 static void print_sizes(void)
 {
-    printf("sizes: %d %d %d %d %d %d %d %d %d %d %d %d %d %d\n", YOTSELINA_STATES, YOTSELINA_LINES, YOTSELINA_FILE, YOTSELINA_WORD, YOTSELINA_OUTPUT,
-           YOTSELINA_WITNESS, YOTSELINA_WITNESS_OUTPUT, YOTSELINA_PAIRS, YOTSELINA_VERDICT_ANSWER, YOTSELINA_TRANSLATE_ANSWER,
-           YOTSELINA_PAIRS_ANSWER, YOTSELINA_DIFFERENCE_ANSWER, YOTSELINA_WRITE_ANSWER, YOTSELINA_ANSWER_TOO_SHORT);
+    printf("sizes: %d %d %d %d %d %d %d %d %d %d %d %d %d %d %d %d %d\n", YOTSELINA_STATES, YOTSELINA_LINES, YOTSELINA_FILE, YOTSELINA_WORD,
+           YOTSELINA_OUTPUT, YOTSELINA_ACCEPTS_INPUT, YOTSELINA_ACCEPTS_OUTPUT, YOTSELINA_WITNESS, YOTSELINA_WITNESS_OUTPUT, YOTSELINA_PAIRS,
+           YOTSELINA_VERDICT_ANSWER, YOTSELINA_TRANSLATE_ANSWER, YOTSELINA_ACCEPTS_ANSWER, YOTSELINA_PAIRS_ANSWER, YOTSELINA_DIFFERENCE_ANSWER,
+           YOTSELINA_WRITE_ANSWER, YOTSELINA_ANSWER_TOO_SHORT);
 }
 
 /* Reads a place beside a list. */
@@ -232,11 +247,11 @@ int main(int count, char **names)
     if (count == 2)
         return beside();
     print_sizes();
-    for (int i = 1; i + 1 < count; i += 2) {
-        struct text table = content(names[i]), word = content(names[i + 1]);
-        printf("file %d\n", i / 2);
-        all_calls(table, word);
-        free(table.bytes), free(word.bytes);
+    for (int i = 1; i + 2 < count; i += 3) {
+        struct text table = content(names[i]), word = content(names[i + 1]), output = content(names[i + 2]);
+        printf("file %d\n", i / 3);
+        all_calls(table, word, output);
+        free(table.bytes), free(word.bytes), free(output.bytes);
     }
     return 0;
 }

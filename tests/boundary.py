@@ -21,19 +21,30 @@ ROUNDS = 3  # how often each thread makes every call
 SOME_TABLES = 4  # one table of a kind in so many is compared through the library
 
 
+def said_yes(call):
+    """The answer of a word test."""
+    return call.lent["answer"].items(1) == (1,)
+
+
 def check(findings, group, table, call, note=""):
     """One call compared whole."""
     refusal, faults = faults_of(table, call)
     findings.check(f"library, {group}", faults, table.content if table else b"", f"{call}\n{note}".rstrip())
-    findings.count(f"library, {call.name}", f"refused {refusal.number}" if refusal else "done")
+    done = "done" if call.name != "accepts" else "yes" if said_yes(call) else "no"
+    findings.count(f"library, {call.name}", f"refused {refusal.number}" if refusal else done)
 
 
 # --- tables ----------------------------------------------------------------------------------------------------------
 
 
-def inputs_of(name, content, words):
-    """What a call is lent to read: the file, and for translations a word."""
-    return [(content, word) for word in words] if name == "translate" else [(content,)]
+def inputs_of(name, content, words, tests):
+    """What a call is lent to read: the file; for translations a word; for word tests an input word and an output word."""
+    more = {"translate": [(word,) for word in words], "accepts": tests}.get(name, [()])
+    return [(content, *given) for given in more]
+
+
+def as_note(words):
+    return "\n".join(map(as_codes, words))
 
 
 def exact_sizes(call):
@@ -53,9 +64,10 @@ def compare_table(library, findings, kind, index):
     random = randomness("library", kind, index)
     transducer, _ = generate.KINDS[kind][1](random)
     table = table_of(table_file(transducer))
+    words, tests = generate.input_words(random, transducer), generate.word_tests(random, transducer)[:2]
     for name in OF_FILES:
-        for inputs in inputs_of(name, table.content, generate.input_words(random, transducer)):
-            note = as_codes(inputs[1]) if name == "translate" else ""
+        for inputs in inputs_of(name, table.content, words, tests):
+            note = as_note(inputs[1:])
             more = {lent: places + random.choice((0, 1, 9)) for lent, places in full_sizes(name).items()}
             call = library.call(random, name, *inputs, **more)
             check(findings, name, table, call, note)
@@ -71,7 +83,7 @@ def any_size(random, full):
 
 
 def compare_mixed(library, findings, index):
-    """Every call on one file, mostly damaged, with any word and any sizes: which of several refusals comes first."""
+    """Every call on one file, mostly damaged, with any words and any sizes: which of several refusals comes first."""
     random = randomness("library, mixed", index)
     transducer, _ = generate.KINDS[random.choice(DAMAGED_KINDS)][1](random)
     content = table_file(transducer)
@@ -79,11 +91,11 @@ def compare_mixed(library, findings, index):
     table = table_of(content)
     for name in OF_FILES:
         word = random.choice(generate.input_words(random, transducer) + [generate.broken_word(random, transducer)])
-        inputs = inputs_of(name, content, [word])[0]
+        inputs = inputs_of(name, content, [word], [generate.broken_words(random, transducer)])[0]
         sizes = {lent: any_size(random, full) for lent, full in full_sizes(name).items()}
         if name == "translate" and random.random() < 0.5:
             sizes["output"] = random.randrange(12)
-        check(findings, "any file, word and sizes", table, library.call(random, name, *inputs, **sizes), as_codes(word))
+        check(findings, "any file, words and sizes", table, library.call(random, name, *inputs, **sizes), as_note(inputs[1:]))
 
 
 # --- named cases -----------------------------------------------------------------------------------------------------
@@ -97,11 +109,11 @@ ANSWERED = {name: NOTHING[name] | ({"answer": full_sizes(name)["answer"]} if "an
 
 # which refusal goes first where several hold: call, what is lent to be read, sizes that are not full, number, record
 ORDERS = (
-    *((name, (LATE, LONG)[:len(CALLS[name][0])], NOTHING[name], 100, 0) for name in CALLS if "answer" in NOTHING[name]),
-    *((name, (P_FILE, LONG)[:len(CALLS[name][0])], NOTHING[name], 100, 0) for name in CALLS if "answer" in NOTHING[name]),
-    *((name, (LATE, LONG)[:len(CALLS[name][0])], ANSWERED[name], 6, 5) for name in OF_FILES),
-    *((name, (NO_FILE, b"")[:len(CALLS[name][0])], ANSWERED[name], 2, 0) for name in OF_FILES),
-    *((name, (b"", b"")[:len(CALLS[name][0])], ANSWERED[name], 1, 0) for name in OF_FILES),
+    *((name, (LATE, LONG, LONG)[:len(CALLS[name][0])], NOTHING[name], 100, 0) for name in CALLS if "answer" in NOTHING[name]),
+    *((name, (P_FILE, LONG, LONG)[:len(CALLS[name][0])], NOTHING[name], 100, 0) for name in CALLS if "answer" in NOTHING[name]),
+    *((name, (LATE, LONG, LONG)[:len(CALLS[name][0])], ANSWERED[name], 6, 5) for name in OF_FILES),
+    *((name, (NO_FILE, b"", b"")[:len(CALLS[name][0])], ANSWERED[name], 2, 0) for name in OF_FILES),
+    *((name, (b"", b"", b"")[:len(CALLS[name][0])], ANSWERED[name], 1, 0) for name in OF_FILES),
     ("translate", (D_FILE, LONG), {"output": 0}, 9, 0),
     ("translate", (D_FILE, ZERO), {"output": 0}, 10, 0),
     ("translate", (D_FILE, b"\1\xfb"), {"output": 0}, 10, 0),
@@ -132,7 +144,7 @@ def compare_files(library, findings):
     for title, content, printed in cases.FILES:
         said = parse_verdict(printed)
         for name in OF_FILES:
-            call = library.call(random, name, *inputs_of(name, content, [b""])[0])
+            call = library.call(random, name, *inputs_of(name, content, [b""], [(b"", b"")])[0])
             if isinstance(said, Refusal):
                 same_refusal(findings, "named file", call, said.number, said.record, title)
             else:
@@ -168,10 +180,10 @@ def two_lists(random):
 
 
 def check_known(findings, group, call, answer, note):
-    """A difference whose answer is known by the way the lists were made; they, too, are compared whole."""
+    """A call whose answer is known by the way what it reads was made; that, too, is compared whole."""
     faults = [f"returned {call.returned}"] if call.returned else []
     faults += [f"{lent} holds something else than it owes" for lent in call.changed({"answer": answer})]
-    findings.check(f"library, {group}", faults, b"", f"{note}: expected {answer}, answered {call.lent['answer'].items(2)}")
+    findings.check(f"library, {group}", faults, b"", f"{note}: expected {answer}, answered {call.lent['answer'].items(len(answer))}")
 
 
 def compare_differences(library, findings):
@@ -215,8 +227,9 @@ def thread_calls():
     for kind, (_, make) in generate.KINDS.items():
         random = randomness("library, threads", kind)
         transducer, _ = make(random)
-        content, words = table_file(transducer), generate.input_words(random, transducer)
-        given = [(name, inputs) for name in OF_FILES for inputs in inputs_of(name, content, words)] + [("difference", (content, content[:-1]))]
+        content, words, tests = table_file(transducer), generate.input_words(random, transducer), generate.word_tests(random, transducer)[:2]
+        given = [(name, inputs) for name in OF_FILES for inputs in inputs_of(name, content, words, tests)]
+        given += [("difference", (content, content[:-1]))]
         calls += [Call(random, name, inputs, full_sizes(name)) for name, inputs in given * ROUNDS]
     return calls
 

@@ -9,20 +9,22 @@ import shutil
 import subprocess
 import sys
 import tempfile
+from itertools import product
 from pathlib import Path
 
 import cases
 import damage
 import generate
 from compare import as_codes, expected_verdict, randomness
-from deskanswers import faults_of_run, faults_of_translation, faults_of_useful, faults_of_words, faults_where
+from deskanswers import faults_of_run, faults_of_translation, faults_of_useful, faults_of_word_test, faults_of_words, faults_where
 from deskpicture import faults_of_picture
 from library import compile_c, find_archive
 from listing import Refusal, parse_verdict
+from owed import table_of
 from programs import HANGS, ROOT, TIME_LIMIT
 from settings import share
 from tools import debian
-from transducer import FILE_SEEN, MAX_WORD, table_file
+from transducer import FILE_SEEN, MAX_TESTED_INPUT, MAX_TESTED_OUTPUT, MAX_WORD, table_file
 
 sys.path.append(str(ROOT / "cli"))
 
@@ -37,7 +39,9 @@ PICTURES = 4  # one of so many is drawn, too
 DAMAGED = 40  # damaged files
 KINDS = ("random, small", "random, middle", "branches, a code changed", "loops, a code changed", "periodic output, a code changed",
          "most lines read nothing", "coprime cycles", "deterministic")
+WORD_TESTS = 2  # asked of each table
 P_WITNESS = ((1,), (0,), (1,), (5,), (6,))  # the only one of table P with at most 2u - 1 items
+NO_BYTES = ("x", "256", "-1", "+1", "1.5", "", "\u00b2", "0x1")  # what is no code at all: wrong usage
 MORE = {"draw": ("-o", "picture.dot")}  # what a subcommand needs beside the file
 
 
@@ -106,7 +110,9 @@ def with_broken_archive(tool):
 
 def try_usage(tool, findings):
     wrong = ((), ("nothing",), ("check",), ("check", "table", "more"), ("check", "--nothing", "table"), ("verdict", "table", "1"),
-             *(("translate", "table", code) for code in ("x", "256", "-1", "+1", "1.5", "", "\u00b2", "0x1")),
+             *(("translate", "table", code) for code in NO_BYTES),
+             *(("accepts", "table", "--input", "1", "--output", code) for code in NO_BYTES), ("accepts", "table", "--input", "256"),
+             ("accepts", "table", "1"), ("accepts", "--input", "1"), ("accepts", "--input", "1", "table"), ("accepts", "table", "--inputs", "1"),
              ("draw", "table"), ("draw", "table", "-o"), ("draw", "table", "-o", "picture.xyz"), ("draw", "table", "-o", "svg"))
     for words in wrong:
         findings.check(GROUP, faults_of_run(tool(*words), 2, "", "usage: yotselina"), b"", f"wrong usage: {' '.join(words)!r}")
@@ -135,8 +141,8 @@ def try_files(tool, findings):
     for file in (b"a <b> & \"c\" \\n", b"\xff\xfe", "\u00fc".encode(), b"own.svg"):
         (tool.folder / os.fsdecode(file)).write_bytes(cases.P_FILE)
         for command in COMMANDS:
-            more = ("-o", "picture.svg") if command == "draw" else ("1",) if command == "translate" else ()
-            status, _, complaint = tool(command, os.fsdecode(file), *more)
+            more = {"draw": ("-o", "picture.svg"), "translate": ("1",), "accepts": ("--input", "1", "--output", "6")}
+            status, _, complaint = tool(command, os.fsdecode(file), *more.get(command, ()))
             faults = faults_where((status == (1 if command == "verdict" else 0), f"exit status {status}, {complaint}"))
             findings.check(GROUP, faults, b"", f"{command} {file}")
     faults = faults_of_run(tool("draw", "own.svg", "-o", "./own.svg"), 2, "", "is the table file itself")
@@ -180,6 +186,31 @@ def try_refusals(tool, findings):
         findings.count("desk tool, refusals", number)
 
 
+def as_options(word, output):
+    return "--input", *map(str, word), "--output", *map(str, output)
+
+
+def try_word_test(tool, findings, content, word, output):
+    run = tool.about(content, "accepts", *as_options(word, output))
+    refused, faults = faults_of_word_test(run, table_of(content), word, output)
+    findings.check("desk tool, word test", faults_of_refusal(run, refused, content) if refused else faults, content, f"{(*word,)}, {(*output,)}")
+    findings.count("desk tool, word tests", f"refused {refused.number}" if refused else "no" if run[0] else "yes")
+
+
+def try_words(tool, findings):
+    """Input words and output words of table P: at the limits and beyond, of any bytes, empty; and the ways to say an empty word."""
+    words = (b"", b"\1", b"\0", b"\xfb", b"\1" * MAX_TESTED_INPUT, b"\0" * (MAX_TESTED_INPUT + 1))
+    outputs = (b"", b"\5", b"\0", b"\xff", b"\6" * MAX_TESTED_INPUT, b"\5" * (MAX_TESTED_OUTPUT + 1))
+    for word, output in product(words, outputs):
+        try_word_test(tool, findings, cases.P_FILE, word, output)
+    empty = "accepting path reads the empty word and writes"
+    for more, status, says in (((), 0, f"yes: an {empty} nothing"), (("--input",), 0, f"yes: an {empty} nothing"),
+                               (("--output", "--input"), 0, f"yes: an {empty} nothing"), (("--output", "5"), 1, f"no: no {empty} 5"),
+                               (("--input", "1", "--output", "5", "6", "--input", "1"), 0, "yes: an accepting path reads 1 1 and writes 5 6")):
+        faults = faults_of_run(tool.about(cases.P_FILE, "accepts", *more), status, says, "" if status else "is split")
+        findings.check("desk tool, word test", faults, cases.P_FILE, " ".join(more))
+
+
 def try_damaged(tool, findings):
     for index in range(share(DAMAGED)):
         random = randomness("desk, damaged", index)
@@ -216,7 +247,7 @@ def try_picture(tool, findings, content, transducer, witness, note):
     findings.count("desk tool, pictures", "split" if witness else "single")
 
 
-def try_table(tool, findings, name, transducer, word, draw):
+def try_table(tool, findings, name, transducer, word, tests, draw):
     """All answers about one table, by the reference."""
     content = table_file(transducer)
     expected, _ = expected_verdict(content)
@@ -227,6 +258,8 @@ def try_table(tool, findings, name, transducer, word, draw):
     run = tool.about(content, "translate", *map(str, word))
     refused, faults = faults_of_translation(run, content, word, expected.split)
     findings.check("desk tool, translation", faults_of_refusal(run, refused, content) if refused else faults, content, as_codes(word))
+    for test in tests:
+        try_word_test(tool, findings, content, *test)
     if draw and said:
         try_picture(tool, findings, content, transducer, said.witness, name)
 
@@ -234,12 +267,13 @@ def try_table(tool, findings, name, transducer, word, draw):
 def try_tables(tool, findings):
     """Document 01's small tables, and generated ones."""
     for name, transducer, _ in cases.VERDICTS:
-        try_table(tool, findings, name, transducer, b"\1", len(transducer.transitions) <= 16)
+        try_table(tool, findings, name, transducer, b"\1", [(b"\1", b"\5")], len(transducer.transitions) <= 16)
     for index in range(share(TABLES)):
         kind = KINDS[index % len(KINDS)]
         random = randomness("desk", kind, index)
         transducer, _ = generate.KINDS[kind][1](random)
-        try_table(tool, findings, kind, transducer, generate.input_words(random, transducer)[index % 2], index // len(KINDS) % PICTURES == 0)
+        word, tests = generate.input_words(random, transducer)[index % 2], generate.word_tests(random, transducer)[:WORD_TESTS]
+        try_table(tool, findings, kind, transducer, word, tests, index // len(KINDS) % PICTURES == 0)
 
 
 def try_formats(tool, findings):
@@ -261,15 +295,16 @@ def try_documents(tool, findings):
             for number, of_file, cause, cure in re.findall(r"^\| (\d+)(, record)? \| (.*) \| (.*) \|$", manual, re.MULTILINE)}
     other = sorted({number for number in rows.keys() | WORDS.keys() if rows.get(number) != WORDS.get(number)})
     findings.check(DOCUMENTS, [f"the manual and the tool differ about number {number}" for number in other], b"", "refusal numbers")
-    content = (ROOT / "tables" / "split").read_bytes()
-    said = tool.about(content, "verdict")[1].splitlines()
-    shown = "".join(f"    {line}".rstrip() + "\n" for line in ("$ cli/yotselina verdict tables/split", *said))
-    findings.check(DOCUMENTS, faults_where((shown in manual, f"not shown: {shown}")), content, "the manual's verdict in words")
+    for command, name, *more in (("verdict", "split"), ("accepts", "single", *as_options(b"\1\2", b"\5\6"))):
+        content = (ROOT / "tables" / name).read_bytes()
+        said = tool.about(content, command, *more)[1].splitlines()
+        shown = "".join(f"    {line}".rstrip() + "\n" for line in (" ".join(("$ cli/yotselina", command, f"tables/{name}", *more)), *said))
+        findings.check(DOCUMENTS, faults_where((shown in manual, f"not shown: {shown}")), content, f"the manual's {command} in words")
     faults = faults_of_picture((ROOT / "docs" / "split.svg").read_bytes(), cases.P, P_WITNESS)
-    findings.check(DOCUMENTS, faults, content, "docs/split.svg is the picture of tables/split")
+    findings.check(DOCUMENTS, faults, cases.P_FILE, "docs/split.svg is the picture of tables/split")
 
 
-PARTS = (try_first_use, try_usage, try_files, try_refusals, try_damaged, try_fake, try_tables, try_formats, try_documents)
+PARTS = (try_first_use, try_usage, try_files, try_refusals, try_words, try_damaged, try_fake, try_tables, try_formats, try_documents)
 
 
 def run(findings):

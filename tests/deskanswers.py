@@ -7,6 +7,7 @@ import generate
 import reference
 from compare import expected_translation, faults_of_output
 from listing import Refusal, Verdict, faults_of_witness
+from reference import Refused
 
 
 class NotSaid(Exception):
@@ -122,7 +123,7 @@ def faults_of_words(run, expected, transducer):
                         (rows == list(rows_of_lines(transducer, path_a, path_b)), f"the lines are not as in the table: {rows[:4]}")), said
 
 
-# --- useful states and pairs, translations -----------------------------------------------------------------------------
+# --- useful states and pairs, translations, word tests -----------------------------------------------------------------
 
 
 def faults_of_useful(run, transducer):
@@ -142,3 +143,15 @@ def faults_of_translation(run, content, word, split):
         return expected, []
     faults = faults_of_run(run, 0, "\n", "is split" if split else "")
     return None, faults or faults_of_output(word, numbers(run[1]), expected, transducer)
+
+
+def faults_of_word_test(run, read, word, output):
+    """The refusal that is expected, or None; and in what the answer is wrong. Where it is yes, a split table is said to be one on standard error."""
+    try:
+        yes = reference.accepts(read.transducer, word, output)
+    except Refused as refused:
+        return Refusal(refused.number, refused.record), []
+    reads, writes = (" ".join(map(str, codes)) or empty for codes, empty in ((word, "the empty word"), (output, "nothing")))
+    said = f"{'yes: an' if yes else 'no: no'} accepting path reads {reads} and writes {writes}\n"
+    faults = faults_of_run(run, 0 if yes else 1, said, "is split" if yes and not read.functional else "")
+    return None, faults + faults_where((run[1] == said, "more than that"))

@@ -1,4 +1,4 @@
-"""Seeded faults: the library with one function made wrong in C, which the comparisons of boundary.py must find."""
+"""Seeded faults: the library with one function made wrong in C, which the comparisons of boundary.py and wordtest.py must find."""
 
 import subprocess
 import tempfile
@@ -6,9 +6,11 @@ from ctypes import c_uint8, c_uint16, c_uint64
 from pathlib import Path
 
 import boundary
+import wordtest
 from examples import run_stack, stack_of_lists
 from findings import Findings
 from library import CALLS, Library, build, link_shared
+from programs import ROOT
 from tools import debian
 from workers import spread
 
@@ -16,7 +18,9 @@ GROUP = "library, seeded fault is found"
 TYPES = {c_uint8: "uint8_t", c_uint16: "uint16_t", c_uint64: "uint64_t"}
 KINDS = ("random, small", "most lines read nothing", "two copies, a code changed", "branches", "coprime cycles", "deterministic")
 TABLES, MIXED = 2, 10
+FORGETS = ROOT / "tests" / "forgets.c"  # a wrong search
 
+NO_CODE = "not_all_codes({0}, {0}_length)"
 # what is wrong, the function, what it does before and after the right one is called (r is what that returned)
 FAULTS = (
     ("single for everything", "verdict", "", "if (!r && answer[0]) for (int i = 0; i < 7; i++) if (i != 1) answer[i] = 0;"),
@@ -48,6 +52,30 @@ FAULTS = (
     ("only the first 999,999 codes are compared", "difference", "if (x_length > 999999 && y_length > 999999) x_length = y_length = 999999;", ""),
     ("a byte over 250 ends a list", "difference", "size_t n = 0; while (n < x_length && x[n] < 251) n++; x_length = n;", ""),
     ("a list that is compared is changed", "difference", "", "if (!r && y_length) ((uint8_t *)y)[y_length - 1] ^= 1;"),
+    ("yes for everything", "accepts", "", "if (!r) answer[0] = 1;"),
+    ("no for everything", "accepts", "", "if (!r) answer[0] = 0;"),
+    ("yes where an output only begins with what is asked", "accepts", "",
+     "uint8_t more[128]; if (!r) for (size_t i = 0; i < output_length; i++) more[i] = output[i]; "
+     "for (int c = 1; !r && !answer[0] && output_length < 127 && c <= 250; c++) "
+     "{ more[output_length] = c; right(file, file_length, input, input_length, more, output_length + 1, answer, answer_length); }"),
+    ("yes where what is asked only begins with an output", "accepts", "",
+     "if (!r && !answer[0] && output_length) right(file, file_length, input, input_length, output, output_length - 1, answer, answer_length);"),
+    ("the position in the output is forgotten", "accepts", "",
+     "if (!r) answer[0] = forgets(file, input, input_length, output, output_length);"),
+    ("11 for a word that is not accepted", "accepts", "uint64_t held = answer_length ? answer[0] : 0;",
+     "if (!r && !answer[0]) { r = 11; answer[0] = held; }"),
+    ("10 before 13", "accepts", "", f"if (r == 13 && {NO_CODE.format('input')}) r = 10;"),
+    ("14 before 13", "accepts", "", f"if (r == 13 && {NO_CODE.format('output')}) r = 14;"),
+    ("14 before 10", "accepts", "", f"if (r == 10 && {NO_CODE.format('output')}) r = 14;"),
+    ("13 before the file's number", "accepts", "if (answer_length && input_length > 63) return 13;", ""),
+    ("the output's length after the input's codes", "accepts", "", f"if (r == 13 && input_length < 64 && {NO_CODE.format('input')}) r = 10;"),
+    ("64 codes are taken", "accepts", "input_length -= input_length == 64;", ""),
+    ("127 codes are refused", "accepts", "output_length += output_length == 127;", ""),
+    ("output code 251 is taken", "accepts", "uint8_t one[1] = {250}; if (output_length == 1 && output[0] == 251) output = one;", ""),
+    ("a refused test writes", "accepts", "", "if (r == 14) answer[0] ^= 1;"),
+    ("an answer that is neither 0 nor 1", "accepts", "", "if (!r) answer[0] *= 2;"),
+    ("the second place of the answer is written", "accepts", "", "if (!r && answer_length > 1) answer[1] = 0;"),
+    ("the output word is changed", "accepts", "", "if (!r && output_length) ((uint8_t *)output)[output_length - 1] ^= 1;"),
 )
 # a function that keeps something while it runs: seen only where another thread is in it at the same time
 SHARES = ("memory that threads share", "verdict", "static volatile size_t kept; kept = file_length;", "if (!r && kept != file_length) answer[1]++;")
@@ -65,6 +93,9 @@ def source(name, before, after):
 #include <stdint.h>
 #define YOTSELINA_NUMBER(r) ((r) & 0xffff)
 uint32_t yotselina_check(const uint8_t *file, size_t file_length);
+int forgets(const uint8_t *file, const uint8_t *input, size_t input_length, const uint8_t *output, size_t output_length);
+static inline int not_all_codes(const uint8_t *word, size_t length)
+{{ for (size_t i = 0; i < length; i++) if (!word[i] || word[i] > 250) return 1; return 0; }}
 uint32_t right({parameters});
 uint32_t yotselina_{name}({parameters}) {{ {before} uint32_t r = right({given}); {after} return r; }}
 """
@@ -81,7 +112,7 @@ def wrong_parts(folder, archive, fault):
 def wrong_library(folder, archive, fault):
     """The shared object with the fault in it."""
     wrong, right = wrong_parts(folder, archive, fault)
-    link_shared(folder / "wrong.so", right, wrong)
+    link_shared(folder / "wrong.so", right, wrong, FORGETS)
     return Library(folder / "wrong.so")
 
 
@@ -91,6 +122,12 @@ def compare_some(library, name):
     if name == "difference":
         boundary.compare_differences(library, found)
         boundary.compare_long(library, found)
+        return found
+    if name == "accepts":
+        wordtest.compare_known(library, found)
+        wordtest.compare_refusals(library, found)
+        for index in range(MIXED):
+            wordtest.compare_table(library, found, "few codes", index)
         return found
     for kind in KINDS:
         for index in range(TABLES):

@@ -1,12 +1,15 @@
-"""Transducers to test with, from a random number generator, and input words for them.
+"""Transducers to test with, from a random number generator, and words for them.
 
 A maker returns a transducer and what is known of it by the way it was made: True (functional), False (not functional), or None.
 Outputs that are single by construction come from an endless periodic word: at each state it is fixed how far ahead of the input the
 output is, so that all accepting paths for one word have written the same beginning of the periodic word.
 """
 
+import math
+
 from reference import closure
-from transducer import MAX_CODE, MAX_OUTPUTS, MAX_STATES, MAX_TRANSITIONS, MAX_WORD, Transducer, Transition
+from transducer import (MAX_CODE, MAX_OUTPUTS, MAX_STATES, MAX_TESTED_INPUT, MAX_TESTED_OUTPUT, MAX_TRANSITIONS, MAX_WORD, Transducer,
+                        Transition)
 
 
 def codes(random, count):
@@ -110,6 +113,15 @@ def reads_nothing(random):
     lines = [line._replace(output=()) if line.input == 0 and random.random() < 0.8 else line
              for line in random_lines(random, states, random.randint(1, 9), inputs, outputs, 0.7, 2)]
     return Transducer(states, some(random, states, 1), some(random, states, 1), tuple(lines)), None
+
+
+def few_codes(random):
+    """One or two codes on either side, lines twice, and many that read nothing or write nothing or neither: a word has many paths and outputs."""
+    states, longest = random.randint(1, 6), random.choice((1, 1, 2, 3, MAX_OUTPUTS))
+    inputs, outputs = codes(random, random.randint(1, 2)), codes(random, random.randint(1, 2))
+    lines = random_lines(random, states, random.randint(1, 3 * states), inputs, outputs, random.choice((0.2, 0.4, 0.6)), longest)
+    lines = tuple(line._replace(output=()) if random.random() < 0.3 else line for line in lines) + lines[:random.randint(0, 2)]
+    return Transducer(states, some(random, states), some(random, states), lines), None
 
 
 # --- functional by construction --------------------------------------------------------------------------------------
@@ -369,11 +381,12 @@ KINDS = {
 }
 
 
-# --- input words -----------------------------------------------------------------------------------------------------
+# --- words -----------------------------------------------------------------------------------------------------------
 
 
-def accepted_word(random, transducer, longest):
-    """What a random accepting path reads: a walk among the states from which a final state can be reached. None if there is no such path."""
+def accepting_path(random, transducer, longest, longest_output=math.inf):
+    """The lines of a random accepting path that reads and writes no more codes than that: a walk among the states from which a final state can be
+    reached. None if it finds no such path."""
     ends = to_final(transducer)
     starts = [state for state in transducer.starts if state in ends]
     if not starts:
@@ -382,17 +395,33 @@ def accepted_word(random, transducer, longest):
     for line in transducer.transitions:
         if line.target in ends:
             leaving.setdefault(line.source, []).append(line)
-    state, word, best = random.choice(starts), [], None
+    state, path, best, read, written = random.choice(starts), [], None, 0, 0
     for _ in range(3 * longest + 10):
         if state in transducer.finals:
-            best = bytes(word)
+            best = len(path)
         lines = leaving.get(state)
-        if not lines or len(word) >= longest:
+        if not lines or read >= longest:
             break
         line = random.choice(lines)
-        word += [line.input] if line.input else []
-        state = line.target
-    return best
+        read, written, state = read + (line.input > 0), written + len(line.output), line.target
+        if written > longest_output:
+            break
+        path.append(line)
+    return None if best is None else path[:best]
+
+
+def read_by(path):
+    return bytes(line.input for line in path if line.input)
+
+
+def written_by(path):
+    return bytes(code for line in path for code in line.output)
+
+
+def accepted_word(random, transducer, longest):
+    """What a random accepting path reads; None if there is no such path."""
+    path = accepting_path(random, transducer, longest)
+    return None if path is None else read_by(path)
 
 
 def any_word(random, transducer, longest):
@@ -401,15 +430,27 @@ def any_word(random, transducer, longest):
     return bytes(word_of(random, inputs, longest))
 
 
-def broken_word(random, transducer):
-    """A word that breaks a limit: too long, or with a code that is none; or both, or just not."""
-    word = bytearray(any_word(random, transducer, 6))
+def broken(random, word, fillers, limit):
+    """The word made to break a limit: too long, or with a code that is none; or both, or just not."""
+    word = bytearray(word)
     if random.random() < 0.5:
-        filler = random.choice([line.input or 1 for line in transducer.transitions] or [1])
-        word += bytes([filler]) * (random.choice((MAX_WORD, MAX_WORD + 1, 300)) - len(word))
+        word += bytes([random.choice(fillers or [1])]) * (random.choice((limit, limit + 1, limit + 45)) - len(word))
     if random.random() < 0.7:
         word.insert(random.randint(0, len(word)), random.choice((0, MAX_CODE, MAX_CODE + 1, 255)))
     return bytes(word)
+
+
+def codes_read(transducer):
+    return [line.input or 1 for line in transducer.transitions]
+
+
+def codes_written(transducer):
+    return [code for line in transducer.transitions for code in line.output]
+
+
+def broken_word(random, transducer):
+    """A word that breaks a limit of the translator, or just not."""
+    return broken(random, any_word(random, transducer, 6), codes_read(transducer), MAX_WORD)
 
 
 def almost(random, transducer, word):
@@ -427,3 +468,38 @@ def input_words(random, transducer):
     if kind < 0.4:
         return [read, almost(random, transducer, read)]
     return [read, any_word(random, transducer, 5) if kind < 0.7 else broken_word(random, transducer)]
+
+
+# --- an input word and an output word --------------------------------------------------------------------------------
+
+
+def related_words(random, transducer):
+    """What a random accepting path reads and what it writes, within the limits of a word test; None if it finds no such path."""
+    path = accepting_path(random, transducer, random.choice((3, 10, 30, MAX_TESTED_INPUT)), MAX_TESTED_OUTPUT)
+    return None if path is None else (read_by(path), written_by(path))
+
+
+def other_outputs(random, transducer, output):
+    """The output with one code more or less, at its end or anywhere, and with one changed."""
+    code = bytes([random.choice([*codes_written(transducer), random.randint(1, MAX_CODE)])])
+    at = random.randint(0, len(output))
+    others = [output + code, output[:at] + code + output[at:]]
+    if output:
+        at = random.randrange(len(output))
+        others += [output[:-1], output[:at] + output[at + 1:], output[:at] + code + output[at + 1:]]
+    return others
+
+
+def word_tests(random, transducer):
+    """Pairs of an input word and an output word: first a pair that is related where one is found, then those that nearly are."""
+    word, output = related_words(random, transducer) or (any_word(random, transducer, 5), b"")
+    _, other = related_words(random, transducer) or (b"", b"")
+    return [(word, output), *((word, near) for near in other_outputs(random, transducer, output)), (word, other),
+            (almost(random, transducer, word), output)]
+
+
+def broken_words(random, transducer):
+    """An input word and an output word, of which one or both break a limit of the word test, or just not."""
+    word, output = word_tests(random, transducer)[0]
+    return (broken(random, word, codes_read(transducer), MAX_TESTED_INPUT) if random.random() < 0.7 else word,
+            broken(random, output, codes_written(transducer), MAX_TESTED_OUTPUT) if random.random() < 0.7 else output)

@@ -22,6 +22,7 @@ CALLS = {
     "verdict": (("file",), (("word", c_uint8, MAX_WITNESS), ("path_a", c_uint16, MAX_WITNESS), ("path_b", c_uint16, MAX_WITNESS),
                             ("output_x", c_uint8, MAX_WITNESS_OUTPUT), ("output_y", c_uint8, MAX_WITNESS_OUTPUT), ("answer", c_uint64, 7))),
     "translate": (("file", "input"), (("output", c_uint8, MAX_TRANSLATION), ("answer", c_uint64, 1))),
+    "accepts": (("file", "input", "output"), (("answer", c_uint64, 1),)),
     "useful_states": (("file",), (("flags", c_uint8, MAX_STATES),)),
     "useful_pairs": (("file",), (("flags", c_uint8, PAIRS), ("answer", c_uint64, 1))),
     "difference": (("x", "y"), (("answer", c_uint64, 2),)),

@@ -14,7 +14,7 @@ from listing import MAX_TRANSLATION, MAX_WITNESS, MAX_WITNESS_OUTPUT, Refusal
 from owed import ANSWER_TOO_SHORT, table_of
 from programs import ROOT
 from tools import debian
-from transducer import MAX_CODE, MAX_FILE, MAX_STATES, MAX_TRANSITIONS, MAX_WORD, table_file
+from transducer import MAX_CODE, MAX_FILE, MAX_STATES, MAX_TESTED_INPUT, MAX_TESTED_OUTPUT, MAX_TRANSITIONS, MAX_WORD, table_file
 
 GROUP = "library, linked"
 HEADER = ROOT / "include" / "yotselina.h"
@@ -22,8 +22,9 @@ DRIVER = ROOT / "tests" / "boundary.c"
 STRICT = ("-Wall", "-Wextra", "-Werror", "-pedantic", f"-I{HEADER.parent}")
 COMPILERS = (("gcc", "-std=c99"), ("gcc", "-std=c11"), ("gcc", "-std=c17"), ("g++", "-std=c++11"), ("g++", "-std=c++17"), ("g++", "-std=c++20"))
 TIME_LIMIT = 120
-SIZES = (MAX_STATES, MAX_TRANSITIONS, MAX_FILE, MAX_WORD, MAX_TRANSLATION, MAX_WITNESS, MAX_WITNESS_OUTPUT, MAX_STATES * MAX_STATES,
-         *(full_sizes(name)["answer"] for name in ("verdict", "translate", "useful_pairs", "difference", "write")), ANSWER_TOO_SHORT)
+SIZES = (MAX_STATES, MAX_TRANSITIONS, MAX_FILE, MAX_WORD, MAX_TRANSLATION, MAX_TESTED_INPUT, MAX_TESTED_OUTPUT, MAX_WITNESS, MAX_WITNESS_OUTPUT,
+         MAX_STATES * MAX_STATES,
+         *(full_sizes(name)["answer"] for name in ("verdict", "translate", "accepts", "useful_pairs", "difference", "write")), ANSWER_TOO_SHORT)
 FOUND = 99  # exit status where valgrind has found something
 VALGRIND = ("-q", f"--error-exitcode={FOUND}", "--leak-check=full", "--errors-for-leak-kinds=all")
 TAKEN = {"memcpy", "memmove", "memset", "memcmp", "bcmp"}  # what the archive may take from C
@@ -72,13 +73,13 @@ class Items:
 class Printed:
     """A line of the program, to be compared like a call."""
 
-    def __init__(self, line, table, word):
+    def __init__(self, line, sample):
         head, _, rest = line.partition(":")
         self.name, *sizes = head.split()
         returned, *lists = rest.split("|")
         number, record = map(int, returned.split())
         self.returned = number + (record << 16)
-        self.inputs = (table, word)
+        self.inputs = sample[:len(CALLS[self.name][0])]
         names = [lent for lent, _, _ in CALLS[self.name][1]]
         self.sizes = dict(zip(names, map(int, sizes)))
         printed = [tuple(map(int, items.split())) for items in lists] or [()] * len(names)
@@ -101,22 +102,27 @@ def longest_file():
 
 
 def samples():
-    """Tables and words: those of document 01, the largest, damaged ones, and some of each sort at random."""
-    longest, word, _ = cases.longest_translation()
-    yield from ((cases.P_FILE, b"\1\1"), (table_file(cases.D), b"\1\2"), (table_file(cases.D_SPLIT), b"\1\2"), (table_file(cases.ONE_STATE), b""),
-                (table_file(longest), bytes(word)), (longest_file(), b"\1\2"), (cases.P_FILE + b" ", b"\1"), (b"", b""), (cases.LONGEST[:-1], b"\1"),
-                (table_file(cases.D), b"\1" * 256), (table_file(cases.D), b"\0"))
+    """Tables, input words and output words: those of document 01, the largest, damaged ones, and some of each sort at random."""
+    longest, word, output = cases.longest_translation()
+    p_file, d_file = cases.P_FILE, table_file(cases.D)
+    yield from ((p_file, b"\1\1", b"\5\6"), (d_file, b"\1\2", b"\5\6"), (table_file(cases.D_SPLIT), b"\1\2", b"\5"),
+                (table_file(cases.ONE_STATE), b"", b""), (table_file(longest), bytes(word), bytes(output)), (longest_file(), b"\1\2", b"\1\xfa"),
+                (p_file + b" ", b"\1", b"\5"), (b"", b"", b""), (cases.LONGEST[:-1], b"\1", b""), (d_file, b"\1" * 256, b"\0" * 128),
+                (d_file, b"\0", b"\0"), (d_file, b"\1", b"\0"), (p_file, b"\1" * MAX_TESTED_INPUT, b"\5\6" * 31 + b"\5"),
+                (p_file, b"\1" * (MAX_TESTED_INPUT + 1), b"\5"), (table_file(longest), b"\1", bytes(output[:MAX_TESTED_OUTPUT])),
+                (p_file, b"\1", b"\5" * (MAX_TESTED_OUTPUT + 1)))
     for kind in ("random, small", "most lines read nothing", "periodic output", "two copies, a code changed", "coprime cycles", "full size, random"):
         random = randomness("library, linked", kind)
         transducer, _ = generate.KINDS[kind][1](random)
-        yield table_file(transducer), generate.input_words(random, transducer)[0]
+        yield table_file(transducer), generate.input_words(random, transducer)[0], b""
+        yield table_file(transducer), *generate.word_tests(random, transducer)[0]
 
 
 def write_samples(folder):
     """The samples as files; returns them with their names."""
     given, names = list(samples()), []
     for number, parts in enumerate(given):
-        for what, content in zip(("table", "word"), parts):
+        for what, content in zip(("table", "input", "output"), parts):
             names.append(folder / f"{what}{number}")
             names[-1].write_bytes(content)
     return given, names
@@ -142,10 +148,10 @@ def run_driver(findings, command, given, title):
     numbers = tuple(map(int, head.partition(":")[2].split()))
     findings.check(GROUP, [] if numbers == SIZES else [f"the header has {numbers}, not {SIZES}"], b"", f"{title}: sizes")
     findings.check(GROUP, [] if len(parts) == len(given) else [f"{len(parts)} of {len(given)} samples are done"], b"", title)
-    for (content, word), part in zip(given, parts):
-        table = table_of(content)
+    for sample, part in zip(given, parts):
+        table = table_of(sample[0])
         for line in part.splitlines():
-            call = Printed(line, content, word)
+            call = Printed(line, sample)
             check(findings, "linked", None if call.name == "difference" else table, call, title)
 
 

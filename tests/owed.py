@@ -90,6 +90,10 @@ def owed_ambiguous(table, call, word, places):
     return {"output": output, "answer": (length,)}, faults
 
 
+def owed_accepts(table, call):
+    return {"answer": (int(table.by_reference(reference.accepts, *call.inputs[1:])),)}, []
+
+
 def owed_useful_states(table, call):
     all_full(call)
     useful = table.by_reference(generate.useful_states)
@@ -119,8 +123,8 @@ def owed_write(table, call):
     return {"out": table.content, "answer": (len(table.content),)}, []
 
 
-OWED = {"check": owed_check, "verdict": owed_verdict, "translate": owed_translate, "useful_states": owed_useful_states,
-        "useful_pairs": owed_useful_pairs, "difference": owed_difference, "write": owed_write}
+OWED = {"check": owed_check, "verdict": owed_verdict, "translate": owed_translate, "accepts": owed_accepts,
+        "useful_states": owed_useful_states, "useful_pairs": owed_useful_pairs, "difference": owed_difference, "write": owed_write}
 
 
 # --- any call --------------------------------------------------------------------------------------------------------

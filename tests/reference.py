@@ -1,14 +1,15 @@
-"""A second implementation of document 01, to compare the programs with.
+"""A second implementation of documents 01 and 02, to compare the programs and the library with.
 
 It shares no idea with the proved crates where another way is known: functionality is decided by residues (document 000, theorem 3.23 and
-corollary 3.24), one for each useful pair of states; a translation is the word on which all accepting paths agree, over all of them at once.
+corollary 3.24), one for each useful pair of states; a translation is the word on which all accepting paths agree, over all of them at once; a word
+test is a plain search over (codes read, codes matched, state).
 """
 
 import re
 from collections import deque
 
-from transducer import (FILE_SEEN, MAX_CODE, MAX_FILE, MAX_OUTPUTS, MAX_STATES, MAX_TRANSITIONS, MAX_WORD, WORD_SEEN,
-                        Transducer, Transition)
+from transducer import (FILE_SEEN, MAX_CODE, MAX_FILE, MAX_OUTPUTS, MAX_STATES, MAX_TESTED_INPUT, MAX_TESTED_OUTPUT, MAX_TRANSITIONS, MAX_WORD,
+                        WORD_SEEN, Transducer, Transition)
 
 # --- the reader ------------------------------------------------------------------------------------------------------
 
@@ -262,21 +263,6 @@ def translation(transducer, word):
     return tuple(output)
 
 
-def relates(transducer, word, output):
-    """Whether some accepting path reads the word and writes the output."""
-    leaving, first, last = accepting_moves(transducer, word)
-
-    def successors(place):
-        node, written = place
-        for line, entered in leaving[node]:
-            end = written + len(line.output)
-            if output[written:end] == line.output:
-                yield entered, end
-
-    reached = closure([(node, 0) for node in first], lambda place: list(successors(place)))
-    return any((node, len(output)) in reached for node in last)
-
-
 def writes_longer(transducer, word, length):
     """Whether some accepting path reads the word and writes more than so many codes."""
     leaving, first, _ = accepting_moves(transducer, word)
@@ -299,9 +285,43 @@ def translate(transducer, typed):
     word = typed[:WORD_SEEN]
     if len(word) > MAX_WORD:
         raise Refused(9)
-    if any(not 1 <= code <= MAX_CODE for code in word):
-        raise Refused(10)
+    only_codes(word, 10)
     output = translation(transducer, word)
     if output is None:
         raise Refused(11)
     return output
+
+
+def only_codes(word, number):
+    """Refuses by this number if something in the word is no code."""
+    if any(not 1 <= code <= MAX_CODE for code in word):
+        raise Refused(number)
+
+
+# --- the word test ---------------------------------------------------------------------------------------------------
+
+
+def relates(transducer, word, output):
+    """Whether some accepting path reads the word and writes the output. Each line's outputs must stand in the output whole, at the next place."""
+    word, output = tuple(word), tuple(output)
+    leaving = [[] for _ in range(transducer.states)]
+    for line in transducer.transitions:
+        leaving[line.source].append(((line.input,) if line.input else (), line.output, line.target))
+
+    def successors(place):
+        read, matched, state = place
+        for reads, writes, target in leaving[state]:
+            if word[read:read + len(reads)] == reads and output[matched:matched + len(writes)] == writes:
+                yield read + len(reads), matched + len(writes), target
+
+    reached = closure([(0, 0, state) for state in transducer.starts], successors)
+    return any((len(word), len(output), state) in reached for state in transducer.finals)
+
+
+def accepts(transducer, word, output):
+    """What the word test owes: yes or no; refuses by document 02's numbers. Both lengths come before any code."""
+    if len(word) > MAX_TESTED_INPUT or len(output) > MAX_TESTED_OUTPUT:
+        raise Refused(13)
+    only_codes(word, 10)
+    only_codes(output, 14)
+    return relates(transducer, word, output)

@@ -1,6 +1,7 @@
 /*
  * How much stack each call takes: it runs on a stack of its own that was painted before, and the deepest byte that lost its colour tells.
- * Prints a line for each call: its name and the bytes. The argument is the table file; its input word is as many ones as a word may have.
+ * Prints a line for each call: its name and the bytes. The argument is the table file; its input word is as many ones as a word may have, and the
+ * output word that is tested is the beginning of what that table writes.
  * Then a line for each of some differences of short and of long lists: the codes of the longer list, the kind that is answered, and the bytes.
  */
 #define _XOPEN_SOURCE 700
@@ -22,6 +23,7 @@ static size_t length;
 static uint8_t word[YOTSELINA_WITNESS], flags[YOTSELINA_PAIRS], out[YOTSELINA_FILE];
 static uint16_t path_a[YOTSELINA_WITNESS], path_b[YOTSELINA_WITNESS];
 static uint8_t output_x[YOTSELINA_WITNESS_OUTPUT], output_y[YOTSELINA_WITNESS_OUTPUT], output[YOTSELINA_OUTPUT], input[YOTSELINA_WORD];
+static uint8_t tested[YOTSELINA_ACCEPTS_OUTPUT];
 static uint64_t answer[YOTSELINA_VERDICT_ANSWER];
 static uint8_t list_x[LONG], list_y[LONG];
 static size_t length_x, length_y;
@@ -39,6 +41,10 @@ static void verdict(void)
 static void translate(void)
 {
     returned = yotselina_translate(file, length, input, sizeof input, output, sizeof output, answer, YOTSELINA_TRANSLATE_ANSWER);
+}
+static void accepts(void)
+{
+    returned = yotselina_accepts(file, length, input, YOTSELINA_ACCEPTS_INPUT, tested, sizeof tested, answer, YOTSELINA_ACCEPTS_ANSWER);
 }
 static void useful_states(void) { returned = yotselina_useful_states(file, length, flags, sizeof flags); }
 static void useful_pairs(void)
@@ -114,6 +120,8 @@ int main(int count, char **arguments)
     measure("yotselina_check", check);
     measure("yotselina_verdict", verdict);
     measure("yotselina_translate", translate);
+    memcpy(tested, output, sizeof tested);
+    measure("yotselina_accepts", accepts);
     measure("yotselina_useful_states", useful_states);
     measure("yotselina_useful_pairs", useful_pairs);
     measure("yotselina_difference", difference);

@@ -6,10 +6,11 @@ import sys
 from typing import Callable, NamedTuple
 
 from . import picture, refusals, table, words
-from .library import FILE, VARIABLE, Library
+from .library import ACCEPTS_INPUT, ACCEPTS_OUTPUT, FILE, VARIABLE, Library
 from .refusals import Failed, Refused
 
 DONE, SPLIT, REFUSED = 0, 1, 2
+YES, NO = 0, 1
 
 
 def read_file(name):
@@ -53,11 +54,23 @@ def verdict(library, options, content):
     return SPLIT, words.split(table.parse(content), useful, witness, difference, options.all)
 
 
-def translate(library, options, content):
-    output = library.translate(content, options.codes)
+def note_split(library, options, content):
+    """Says on standard error where the table is split."""
     if library.verdict(content)[1] is not None:
         complain(f"note: {options.file} is split, so another unit may write another output for this word")
+
+
+def translate(library, options, content):
+    output = library.translate(content, options.codes)
+    note_split(library, options, content)
     return DONE, [" ".join(map(str, output))]
+
+
+def accepts(library, options, content):
+    yes = library.accepts(content, options.input, options.output)
+    if yes:
+        note_split(library, options, content)
+    return YES if yes else NO, [words.accepted(yes, options.input, options.output)]
 
 
 def useful(library, options, content):
@@ -101,6 +114,12 @@ def translate_arguments(parser):
     parser.add_argument("codes", metavar="CODE", nargs="*", type=code, help="the codes of the input word, 1 to 250 each; none for the empty word")
 
 
+def accepts_arguments(parser):
+    for name, most in (("input", ACCEPTS_INPUT), ("output", ACCEPTS_OUTPUT)):
+        parser.add_argument(f"--{name}", metavar="CODE", nargs="*", type=code, action="extend", default=[],
+                            help=f"the codes of the {name} word, 1 to 250 each, at most {most}; none, or no --{name}, for the empty word")
+
+
 def draw_arguments(parser):
     parser.add_argument("-o", dest="out", metavar="PICTURE", type=picture_name, required=True,
                         help=f"where the picture goes; its name ends in .{', .'.join(picture.FORMATS)}")
@@ -119,6 +138,9 @@ COMMANDS = {
                        "Exit status: 0 single, 1 split, 2 refused. A split is shown: the input word, the two paths, where they part, and "
                        "which lines write what. Lines are counted from 0 in the order of the file.", verdict_arguments),
     "translate": Command(translate, "the output of an input word", "Exit status: 0 done, 2 refused.", translate_arguments),
+    "accepts": Command(accepts, "does this input word give this output word?",
+                       "Exit status: 0 yes, 1 no, 2 refused. Yes: some accepting path reads the input word and writes the output word, all of it "
+                       "and no more. FILE stands before --input and --output.", accepts_arguments),
     "useful": Command(useful, "the useful states and the useful pairs of states", "Exit status: 0 done, 2 refused."),
     "draw": Command(draw, "the table as a picture, a split with its two paths",
                     "Exit status: 0 drawn, 2 refused or not drawn. Needs Graphviz (Debian: graphviz) for all but .dot, the graph's text. "

@@ -19,11 +19,14 @@ VARIABLE = "YOTSELINA_LIBRARY"
 STATES = 32
 FILE = 13_202
 OUTPUT = 65_528
+ACCEPTS_INPUT = 63
+ACCEPTS_OUTPUT = 127
 WITNESS = 2_047
 WITNESS_OUTPUT = 16_376
 PAIRS = 1_024
 VERDICT_ANSWER = 7
 TRANSLATE_ANSWER = 1
+ACCEPTS_ANSWER = 1
 PAIRS_ANSWER = 1
 DIFFERENCE_ANSWER = 2
 LEVEL, FIRST_AHEAD, SECOND_AHEAD, CLASH = range(4)
@@ -129,6 +132,12 @@ class Library:
         output, answer = lent(ctypes.c_uint8, OUTPUT), lent(ctypes.c_uint64, TRANSLATE_ANSWER)
         self.call("translate", lent(ctypes.c_uint8, file), lent(ctypes.c_uint8, word), output, answer)
         return tuple(output[:answer[0]])
+
+    def accepts(self, file, word, output):
+        """Whether an accepting path reads the word and writes the output."""
+        answer = lent(ctypes.c_uint64, ACCEPTS_ANSWER)
+        self.call("accepts", lent(ctypes.c_uint8, file), lent(ctypes.c_uint8, word), lent(ctypes.c_uint8, output), answer)
+        return answer[0] == 1
 
     def useful_states(self, file):
         """A flag for each of the 32 states."""

@@ -41,6 +41,9 @@ WORDS = {
     10: Words(False, "an input code is 0 or over 250", "codes are 1 to 250"),
     11: Words(False, "no accepting path reads the input word", "the table has no output for it"),
     12: Words(True, "the file has over 13,202 bytes", "no table needs as many"),
+    13: Words(False, "word test: the input word has over 63 codes, or the output word over 127",
+              "ask about shorter words; the translator takes input words of up to 255 codes"),
+    14: Words(False, "an output code is 0 or over 250", "codes are 1 to 250"),
     100: Words(False, "the library's list `answer` is too short", "lend as many places as include/yotselina.h names for the call"),
 }
 UNKNOWN = Words(False, "a number that this tool does not know", "see docs/MANUAL.md of the library's own version")

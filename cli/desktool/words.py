@@ -21,6 +21,11 @@ def listed(items, every=True):
     return " ".join(items) or "nothing"
 
 
+def word_listed(word, every=True):
+    """An input word."""
+    return listed(word, every) if word else "the empty word"
+
+
 def lines_listed(path, every=True):
     """A path: the numbers of its lines."""
     return f"{'line' if len(path) == 1 else 'lines'} {listed(path, every)}" if path else "no line"
@@ -99,7 +104,7 @@ def lines_of_paths(table, witness):
 def split(table, useful, witness, difference, every):
     """A split verdict, line by line."""
     said = [f"split: one input word, two paths, two outputs (u = {useful:,})", ""]
-    said += wrapped("word", listed(witness.word, every) if witness.word else "the empty word")
+    said += wrapped("word", word_listed(witness.word, every))
     for name, path, output in (("A", witness.path_a, witness.output_x), ("B", witness.path_b, witness.output_y)):
         said += wrapped(f"path {name}", lines_listed(path, every))
         said += wrapped("  writes", listed(output, every))
@@ -116,6 +121,11 @@ def split(table, useful, witness, difference, every):
 def taken(name, content, table):
     return (f"{name}: taken: {counted(table.states, 'state')}, {counted(len(table.starts), 'start state')}, "
             f"{counted(len(table.finals), 'final state')}, {counted(len(table.lines), 'line')}, {counted(len(content), 'byte')}")
+
+
+def accepted(yes, word, output):
+    """Whether an accepting path reads the word and writes the output."""
+    return f"{'yes: an' if yes else 'no: no'} accepting path reads {word_listed(word)} and writes {listed(output)}"
 
 
 def useful(table, flags, count, partners):
