@@ -28,6 +28,16 @@ extern "C" {
         answer: *mut u64,
         answer_length: usize,
     ) -> u32;
+    fn yotselina_accepts(
+        file: *const u8,
+        file_length: usize,
+        input: *const u8,
+        input_length: usize,
+        output: *const u8,
+        output_length: usize,
+        answer: *mut u64,
+        answer_length: usize,
+    ) -> u32;
     fn yotselina_useful_states(file: *const u8, file_length: usize, flags: *mut u8, flags_length: usize) -> u32;
     fn yotselina_useful_pairs(
         file: *const u8,
@@ -44,6 +54,8 @@ extern "C" {
 pub const WITNESS: usize = 2_047;
 pub const WITNESS_OUTPUT: usize = 16_376;
 pub const OUTPUT: usize = 65_528;
+pub const ACCEPTS_INPUT: usize = 63;
+pub const ACCEPTS_OUTPUT: usize = 127;
 pub const FILE: usize = 13_202;
 pub const STATES: usize = 32;
 pub const PAIRS: usize = 1_024;
@@ -108,6 +120,13 @@ impl Buffers {
             0 => Ok(&self.output[..self.answer[0] as usize]),
             refusal => Err(refusal),
         }
+    }
+
+    /// What the call returned; 1 for yes.
+    pub fn accepts(&mut self, file: &[u8], input: &[u8], output: &[u8]) -> (u32, u64) {
+        let answer = self.answer.as_mut_ptr();
+        let returned = unsafe { yotselina_accepts(file.as_ptr(), file.len(), input.as_ptr(), input.len(), output.as_ptr(), output.len(), answer, 1) };
+        (returned, self.answer[0])
     }
 
     pub fn useful_states(&mut self, file: &[u8]) -> u32 {

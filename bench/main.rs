@@ -1,6 +1,7 @@
 //! Measures the library side by side with plain Rust on the same tables, in one process, and prints FIGURES.md.
 //! `bench REPETITIONS COMPILER`; bench/run builds and starts it. README.md says how it is measured.
 
+mod accepts;
 mod equations;
 mod library;
 mod plain;
@@ -94,10 +95,10 @@ struct Row {
     net: Option<Net>,
 }
 
-/// The smallest times of a verdict, of the library and of equations.rs, each less that of its own reading of the same file.
+/// The smallest times of the library and of the yardstick with the same method, each less that of its own reading of the same file.
 struct Net {
     ours: f64,
-    equations: f64,
+    same_method: f64,
 }
 
 impl Row {
@@ -111,14 +112,14 @@ impl Row {
         cells.extend(self.net.iter().map(|net| format!("**{}**", digits(net.ratio()))));
         cells.extend(self.facts.clone());
         cells.extend([&self.ours, &self.yardstick].iter().flat_map(|times| [times.smallest, times.median]).map(digits));
-        cells.extend(self.net.iter().flat_map(|net| [net.ours, net.equations]).map(digits));
+        cells.extend(self.net.iter().flat_map(|net| [net.ours, net.same_method]).map(digits));
         cells
     }
 }
 
 impl Net {
     fn ratio(&self) -> f64 {
-        self.ours / self.equations
+        self.ours / self.same_method
     }
 }
 
@@ -196,7 +197,7 @@ fn verdict_row(name: &str, split: bool, table: Table, repetitions: usize, buffer
     let mut read = || drop(black_box(plain::read(black_box(&file))));
     let calls: [&mut dyn FnMut(); 5] = [&mut ours, &mut residue, &mut check, &mut equations, &mut read];
     let [ours, yardstick, check, equations, read] = measure(name, repetitions, calls);
-    let net = Net { ours: ours.smallest - check.smallest, equations: equations.smallest - read.smallest };
+    let net = Net { ours: ours.smallest - check.smallest, same_method: equations.smallest - read.smallest };
     Row { name: name.to_string(), facts, ours, yardstick, net: Some(net) }
 }
 
@@ -238,32 +239,125 @@ fn translation_row(name: &str, table: Table, word: &[u8], repetitions: usize, bu
     Row { name: name.to_string(), facts, ours, yardstick, net: None }
 }
 
+// --- the word test ---------------------------------------------------------------------------------------------------
+
+/// Whether some accepting path of the table reads the one word and writes the other: yes or no, as the words were made.
+struct Question {
+    name: String,
+    table: Table,
+    input: Vec<u8>,
+    output: Vec<u8>,
+    yes: bool,
+}
+
+/// Most tables twice: with the words of an accepting path, and with another last output code, so that no path has them.
+fn questions() -> Vec<(&'static str, Vec<Question>)> {
+    let yes = |name: &str, table: &Table, input: &[u8], output: &[u8]| Question {
+        name: name.to_string(),
+        table: table.clone(),
+        input: input.to_vec(),
+        output: output.to_vec(),
+        yes: true,
+    };
+    let both = |name: &str, table: Table, input: &[u8], output: &[u8]| {
+        let (last, before) = output.split_last().unwrap();
+        let other = [before, &[251 - last]].concat();
+        [yes(name, &table, input, output), Question { yes: false, ..yes(name, &table, input, &other) }]
+    };
+    let along = |name: &str, table: Table, input: &[u8]| {
+        let output = search::translate(&table.file(), input).unwrap();
+        both(name, table, input, &output)
+    };
+    let (ones, fives) = (word(1, library::ACCEPTS_INPUT), vec![5; library::ACCEPTS_OUTPUT]);
+    let growth = |read: usize, written: usize| yes("32 states by a ring, scattered", &everywhere(5, 3), &ones[..read], &fives[..written]);
+    let small = [both("P", p(), &ones, &[5, 6].repeat(32)[..63]), along("D", d([5, 6]), &word(2, 2))];
+    let all = [
+        both("32 states by a ring, rising", everywhere(1, 1), &ones, &fives),
+        both("32 states by a ring, falling", everywhere(1, 31), &ones, &fives),
+        both("32 states by a ring, scattered", everywhere(5, 3), &ones, &fives),
+        both("32 states by 8 lines each", everywhere_by_all(), &ones, &fives),
+        both("32 states by a ring, 222 lines with another eighth code", everywhere_and_nearly(), &ones, &fives),
+        both("one state, 256 lines", one_state_by_all(), &ones, &fives),
+    ];
+    let few = [
+        both("one path", one_path(), &ones, &[vec![5; 124], vec![6; 3]].concat()),
+        along("ring of 32, 8 lines each", ring(32, 8, 2), &ones),
+        along("cycles of 15 and 17, 8 lines each", cycles(15, 17, 8).cut(2), &ones[..60]),
+        along("deterministic", deterministic().cut(2), &word(8, 63)),
+        along("dense, 16 states all to all, 1 input", dense(16, 1).cut(2), &ones),
+        along("dense, 32 states, 2 inputs", dense(32, 2).cut(2), &word(2, 63)),
+        along("dense, 32 states, 8 inputs", dense(32, 8).cut(2), &word(8, 63)),
+        along("delayed, 3 lines each", delayed(4, 3).cut(2), &delayed_word(4)[..63]),
+    ];
+    let eight = [
+        along("ring of 32, 8 lines each", ring(32, 8, 8), &ones[..15]),
+        along("cycles of 15 and 17, 8 lines each", cycles(15, 17, 8), &ones[..15]),
+        along("deterministic", deterministic(), &word(8, 15)),
+        along("dense, 16 states all to all, 1 input", dense(16, 1), &ones[..15]),
+    ];
+    let silent = along("lines that read nothing", silent().cut(1), &ones[..3]);
+    let smallest = yes("one state, no lines", &one_state(), &[], &[]);
+    vec![
+        ("Small tables of document 01", [smallest].into_iter().chain(small.into_iter().flatten()).collect()),
+        ("All states at all positions of both words", all.into_iter().flatten().collect()),
+        ("Few states at most positions, 1 to 3 codes a line", few.into_iter().flatten().chain(silent).collect()),
+        ("The same, 8 codes a line", eight.into_iter().flatten().collect()),
+        ("Growth with the words", [(1, 2), (4, 8), (16, 32), (63, 127)].map(|(read, written)| growth(read, written)).into()),
+    ]
+}
+
+fn question_row(question: Question, repetitions: usize, buffers: &mut Buffers) -> Row {
+    let Question { name, table, input, output, yes } = question;
+    let file = table.file();
+    assert_eq!(accepts::accepts(&file, &input, &output), yes, "{name}: accepts.rs does not give the answer that the words were made for");
+    let facts = [format!("{}, {}", input.len(), output.len()), ["no", "yes"][yes as usize].to_string()];
+    let given = || (black_box(&file[..]), black_box(&input[..]), black_box(&output[..]));
+    let mut ours = || {
+        let (file, input, output) = given();
+        compare(&name, "the library", buffers.accepts(file, input, output), (0, yes as u64))
+    };
+    let mut plain_rust = || {
+        let (file, input, output) = given();
+        compare(&name, "accepts.rs", accepts::accepts(file, input, output), yes)
+    };
+    let mut check = || compare(&name, "the library", library::check(black_box(&file)), 0);
+    let mut read = || drop(black_box(plain::read(black_box(&file))));
+    let calls: [&mut dyn FnMut(); 4] = [&mut ours, &mut plain_rust, &mut check, &mut read];
+    let [ours, yardstick, check, read] = measure(&name, repetitions, calls);
+    let net = Net { ours: ours.smallest - check.smallest, same_method: yardstick.smallest - read.smallest };
+    Row { name, facts, ours, yardstick, net: Some(net) }
+}
+
 // --- memory ----------------------------------------------------------------------------------------------------------
 
 /// The most stack that each call needs on all files and words that are measured.
 fn print_memory(buffers: &mut Buffers) {
-    let mut given: Vec<(Vec<u8>, Vec<u8>)> = Vec::new();
+    let mut given: Vec<[Vec<u8>; 3]> = Vec::new();
     for (_, rows) in translations() {
-        given.extend(rows.into_iter().map(|(_, table, word)| (table.file(), word)));
+        given.extend(rows.into_iter().map(|(_, table, word)| [table.file(), word, Vec::new()]));
     }
     for (_, tables) in verdict_tables() {
-        given.extend(tables.into_iter().map(|(_, _, table)| (table.file(), Vec::new())));
+        given.extend(tables.into_iter().map(|(_, _, table)| [table.file(), Vec::new(), Vec::new()]));
     }
-    type Call = fn(&mut Buffers, &[u8], &[u8]) -> u32;
-    let calls: [(&str, usize, Call); 7] = [
-        ("check", 0, |_, file, _| library::check(file)),
-        ("verdict", 5 * library::WITNESS + 2 * library::WITNESS_OUTPUT + 7 * 8, |buffers, file, _| buffers.verdict(file).0),
-        ("translate", library::OUTPUT + 8, |buffers, file, word| buffers.translate(file, word).err().unwrap_or(0)),
-        ("useful_states", library::STATES, |buffers, file, _| buffers.useful_states(file)),
-        ("useful_pairs", library::PAIRS + 8, |buffers, file, _| buffers.useful_pairs(file)),
-        ("difference", 2 * 8, |buffers, file, word| buffers.difference(file, word)),
-        ("write", library::FILE + 8, |buffers, file, _| buffers.write(file)),
+    for (_, rows) in questions() {
+        given.extend(rows.into_iter().map(|row| [row.table.file(), row.input, row.output]));
+    }
+    type Call = fn(&mut Buffers, &[u8], &[u8], &[u8]) -> u32;
+    let calls: [(&str, usize, Call); 8] = [
+        ("check", 0, |_, file, _, _| library::check(file)),
+        ("verdict", 5 * library::WITNESS + 2 * library::WITNESS_OUTPUT + 7 * 8, |buffers, file, _, _| buffers.verdict(file).0),
+        ("translate", library::OUTPUT + 8, |buffers, file, word, _| buffers.translate(file, word).err().unwrap_or(0)),
+        ("accepts", 8, |buffers, file, word, output| buffers.accepts(file, &word[..word.len().min(library::ACCEPTS_INPUT)], output).0),
+        ("useful_states", library::STATES, |buffers, file, _, _| buffers.useful_states(file)),
+        ("useful_pairs", library::PAIRS + 8, |buffers, file, _, _| buffers.useful_pairs(file)),
+        ("difference", 2 * 8, |buffers, file, word, _| buffers.difference(file, word)),
+        ("write", library::FILE + 8, |buffers, file, _, _| buffers.write(file)),
     ];
     println!("\n## Memory of each call\n\n| call | stack, bytes | lent buffers, bytes |\n|---|---|---|");
     let stacks = calls.map(|(name, bytes, call)| {
-        let depth = |(file, word): &(Vec<u8>, Vec<u8>)| {
+        let depth = |[file, word, output]: &[Vec<u8>; 3]| {
             stack::depth(&mut || {
-                let returned = call(buffers, file, word);
+                let returned = call(buffers, file, word, output);
                 assert!(returned == 0 || returned == library::UNREAD, "{name} refuses with {returned}");
             })
         };
@@ -283,17 +377,24 @@ struct Section {
     title: &'static str,
     library: &'static str,
     yardstick: &'static str,
+    same_method: &'static str, // the yardstick of the net ratio, where there is one
     facts: [&'static str; 2],
     groups: Vec<(&'static str, Vec<Row>)>,
 }
 
 impl Section {
+    fn new(title: &'static str, library: &'static str, yardsticks: [&'static str; 2], facts: [&'static str; 2]) -> Section {
+        let [yardstick, same_method] = yardsticks;
+        Section { title, library, yardstick, same_method, facts, groups: Vec::new() }
+    }
+
     fn print(&self) {
         println!("\n## {}", self.title);
         for (title, rows) in &self.groups {
             println!("\n### {title}\n");
             let has_net = rows.iter().any(|row| row.net.is_some());
-            let [ratio, times] = if has_net { ["net ratio to equations.rs | ", " | net library µs | net equations.rs µs"] } else { [""; 2] };
+            let net = [format!("net ratio to {} | ", self.same_method), format!(" | net library µs | net {} µs", self.same_method)];
+            let [ratio, times] = if has_net { net } else { Default::default() };
             let (facts, yardstick) = (self.facts.join(" | "), self.yardstick);
             let head =
                 format!("table | ratio to {yardstick} | ratio of medians | {ratio}{facts} | library µs | median | {yardstick} µs | median{times}");
@@ -312,8 +413,9 @@ impl Section {
 
     /// The range of the ratios to each yardstick, and the table with the largest: over all tables, and over those on which the call is long.
     fn print_ratios(&self) {
+        let net = format!("{}, net of reading", self.same_method);
         let ratios: [(&str, fn(&Row) -> Option<f64>); 2] =
-            [(self.yardstick, |row| Some(row.ratio())), ("equations.rs, net of reading", |row| row.net.as_ref().map(Net::ratio))];
+            [(self.yardstick, |row| Some(row.ratio())), (&net, |row| row.net.as_ref().map(Net::ratio))];
         for (yardstick, ratio) in ratios {
             for (tables, least_time) in [("all".to_string(), 0.0), (format!("{LONG} µs or more"), LONG)] {
                 let rows = self.rows().filter(|row| row.ours.smallest >= least_time);
@@ -360,28 +462,29 @@ fn main() {
     let processors = std::thread::available_parallelism().map_or(0, usize::from);
     let buffers = &mut Buffers::new();
 
-    let mut verdict =
-        Section { title: "Verdict", library: "yotselina_verdict", yardstick: "residue.rs", facts: ["verdict", "u"], groups: Vec::new() };
+    let mut verdict = Section::new("Verdict", "yotselina_verdict", ["residue.rs", "equations.rs"], ["verdict", "u"]);
     for (title, tables) in verdict_tables() {
         let rows = tables.into_iter().map(|(name, split, table)| verdict_row(&name, split, table, repetitions, buffers));
         verdict.groups.push((title, rows.collect()));
     }
-    let facts = ["codes read", "codes written"];
-    let mut translation = Section { title: "Translation", library: "yotselina_translate", yardstick: "search.rs", facts, groups: Vec::new() };
+    let mut translation = Section::new("Translation", "yotselina_translate", ["search.rs", ""], ["codes read", "codes written"]);
     for (title, rows) in translations() {
         let rows = rows.into_iter().map(|(name, table, word)| translation_row(name, table, &word, repetitions, buffers));
         translation.groups.push((title, rows.collect()));
     }
+    let mut test = Section::new("Word test", "yotselina_accepts", ["accepts.rs"; 2], ["codes read, written", "answer"]);
+    for (title, rows) in questions() {
+        test.groups.push((title, rows.into_iter().map(|question| question_row(question, repetitions, buffers)).collect()));
+    }
+    let mut reading = Section::new("Reading", "yotselina_check", ["plain.rs", ""], ["bytes", "lines"]);
     let files = [("one state, no lines", one_state()), ("D", d([5, 6])), ("dense, 32 states, 8 inputs", dense(32, 8))];
-    let rows = files.map(|(name, table)| reading_row(name, table, repetitions)).into();
-    let groups = vec![("The file alone", rows)];
-    let reading = Section { title: "Reading", library: "yotselina_check", yardstick: "plain.rs", facts: ["bytes", "lines"], groups };
+    reading.groups.push(("The file alone", files.map(|(name, table)| reading_row(name, table, repetitions)).into()));
 
     println!("# Figures\n");
     println!("One run of `bench/run`. Repetitions: {repetitions}; {}; processors: {processors}; load at the start: {load}.\n", arguments[2]);
     println!("| library / yardstick | tables, by the library's time | smallest ratio | largest ratio | worst table by ratio |");
     println!("|---|---|---|---|---|");
-    let sections = [verdict, translation, reading];
+    let sections = [verdict, translation, test, reading];
     sections.iter().for_each(Section::print_ratios);
     println!("\n| library | longest µs | worst table by time |\n|---|---|---|");
     sections.iter().for_each(Section::print_longest);

@@ -58,6 +58,12 @@ impl Table {
         self.finals.clear();
         self
     }
+
+    /// Each transition writes its first codes only, so many at most.
+    pub fn cut(mut self, length: usize) -> Table {
+        self.transitions.iter_mut().for_each(|transition| transition.output.truncate(length));
+        self
+    }
 }
 
 /// One state, start and final, and no transitions.
@@ -142,6 +148,39 @@ pub fn delayed(passes: usize, copies: usize) -> Table {
 pub fn delayed_word(passes: usize) -> Vec<u8> {
     let half = (0..passes).map(|pass| vec![pass as u8 + 1; 15]).collect::<Vec<_>>().join(&(AGAIN as u8));
     [half.clone(), vec![HALF as u8], half].concat()
+}
+
+/// A ring of 32 transitions that read and write nothing, and at state 0 two that stay there: one reads 1, one writes 5. So all states are reached at
+/// every two positions in words of ones and of fives. The ring leads from state i to state (factor i + step) % 32.
+pub fn everywhere(factor: usize, step: usize) -> Table {
+    let mut transitions: Vec<_> = (0..32).map(|i| transition(i, (factor * i + step) % 32, 0, vec![])).collect();
+    transitions.extend([transition(0, 0, 1, vec![]), transition(0, 0, 0, vec![5])]);
+    Table { states: 32, starts: vec![0], finals: vec![31], transitions }
+}
+
+/// All states at every two positions, as above, by eight transitions of each state: two that read and write nothing, two that write 5, two that read
+/// 1, two that do both.
+pub fn everywhere_by_all() -> Table {
+    let transitions = (0..256).map(|i| transition(i / 8, (i / 8 + 1 + 5 * (i % 8)) % 32, (i / 4) % 2, vec![5; (i / 2) % 2])).collect();
+    Table { states: 32, starts: vec![0], finals: vec![31], transitions }
+}
+
+/// The first table with all states at every two positions, and 222 transitions more that write 5 seven times and then 6.
+pub fn everywhere_and_nearly() -> Table {
+    let mut table = everywhere(1, 1);
+    table.transitions.extend((0..222).map(|i| transition(i % 32, (i + 1) % 32, 0, vec![5, 5, 5, 5, 5, 5, 5, 6])));
+    table
+}
+
+/// One state and 256 transitions of the four kinds: all of them are tried at every two positions.
+pub fn one_state_by_all() -> Table {
+    let transitions = (0..256).map(|i| transition(0, 0, (i / 2) % 2, vec![5; i % 2])).collect();
+    Table { states: 1, starts: vec![0], finals: vec![0], transitions }
+}
+
+/// One path for 63 ones and 127 codes: 62 times two fives, then three sixes.
+pub fn one_path() -> Table {
+    Table { states: 2, starts: vec![0], finals: vec![1], transitions: vec![transition(0, 0, 1, vec![5, 5]), transition(0, 1, 1, vec![6, 6, 6])] }
 }
 
 /// A word of so many codes, from 1 to `inputs` in turn.
