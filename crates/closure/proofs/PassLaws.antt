@@ -3,14 +3,13 @@ use mathlib.Core.Path.{_≡_, refl, sym, ap, _∙_}
 use mathlib.Core.Bool.{Bool, true, false, _||_, true≢false}
 use mathlib.Core.List.{List}
 use mathlib.Core.Logic.{_≢_, ⊎-elim}
-use Prim.Native.Nat.{ℕ, _+_, _≤_, _<_}
+use Prim.Native.Nat.{ℕ, _+_, _<_}
 use native.Mathlib.Omega.{arith}
 use borrow.Author.Count.{below-more}
-use lib.ListN.{length, getD}
 use Rattle.transducer.specs.Limits.{mostStates}
 use Rattle.worklist.specs.Lists.{zeros}
-use Rattle.product.specs.Machine.{countOf, fromOf, toOf, Machine}
-use Rattle.closure.specs.Closure.{flagAt, mostFlags, Set, Empty, Silent, ClosureOf, Own, Sound, Joins, Followed, Passed}
+use Rattle.product.specs.Machine.{countOf, Machine}
+use Rattle.closure.specs.Closure.{flagAt, Set, Empty, Silent, ClosureOf, Own, Sound, Followed, Passed}
 use Rattle.closure.proofs.FlagLaws.{or-false, less-either, same-both}
 
 module _ {m written : List ℕ} where

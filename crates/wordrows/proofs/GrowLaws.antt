@@ -1,10 +1,10 @@
 -- Rows that grow: what is reached from what is reached is reached; and what the marks that a transition makes add. Assumes nothing.
-use mathlib.Core.Path.{_≡_, refl, sym, ap, _∙_}
+use mathlib.Core.Path.{_≡_, refl}
 use mathlib.Core.List.{List}
 use mathlib.Core.Logic.{_≢_, _⊎_, inl, inr, ⊎-elim}
 use Prim.Native.Nat.{ℕ, _+_, _≤_, _<_}
 use native.Mathlib.Omega.{arith}
-use lib.ListN.{length, getD, take, drop}
+use lib.ListN.{length}
 use Rattle.transducer.specs.Limits.{mostStates}
 use Rattle.transducer.specs.Transition.{firsts}
 use Rattle.product.specs.Machine.{countOf, fromOf, toOf, keyOf}
@@ -12,10 +12,10 @@ use Rattle.outputs.specs.Outputs.{countAt, codesAt, HeldAt}
 use Rattle.outputs.proofs.OutputLaws.{length-codes}
 use Rattle.closure.specs.Closure.{Empty, Silent}
 use Rattle.wordrows.specs.Limits.{mostOutput}
-use Rattle.wordrows.specs.Leads.{Lent, Leads}
+use Rattle.wordrows.specs.Leads.{Leads}
 use Rattle.wordrows.specs.Rows.{Marked, Row, From, Entered}
-use Rattle.wordrows.specs.Cells.{Mark, Grows, Done, Goes, Ready, Put, Followed}
-use Rattle.wordrows.proofs.MarkLaws.{row-silent, mark-kept, mark-marked, mark-only, mark-row}
+use Rattle.wordrows.specs.Cells.{Grows, Done, Goes, Ready, Put, Followed}
+use Rattle.wordrows.proofs.MarkLaws.{mark-kept, mark-marked, mark-only, mark-row}
 
 module _ {m written output : List ℕ} where
   -- ---- what is reached

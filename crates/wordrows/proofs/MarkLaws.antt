@@ -1,5 +1,5 @@
 -- What a mark leaves: the state and those of its closure are marked, and no other is that was not. Assumes nothing.
-use mathlib.Core.Path.{_≡_, refl, sym, ap, _∙_}
+use mathlib.Core.Path.{_≡_, refl, ap, _∙_}
 use mathlib.Core.List.{List}
 use mathlib.Core.Logic.{_≢_, _⊎_, inl, inr, ⊎-elim}
 use Prim.Native.Nat.{ℕ, zero, suc, _+_, _≤_, _<_}
@@ -10,9 +10,9 @@ use lib.ListN.{length, getD, set, length-set}
 use lib.Seq.{getD-set-same, getD-set-other}
 use Rattle.transducer.specs.Limits.{mostStates}
 use Rattle.transducer.proofs.Bools.{le-or-lt}
-use Rattle.closure.specs.Closure.{flagAt, Set, Empty, Silent, ClosureOf}
+use Rattle.closure.specs.Closure.{flagAt, Set, Silent, ClosureOf}
 use Rattle.closure.proofs.PassLaws.{silent-more}
-use Rattle.wordrows.specs.Limits.{mostOutput, rowPlaces}
+use Rattle.wordrows.specs.Limits.{mostOutput}
 use Rattle.wordrows.specs.Rows.{cellAt, placeOf, Marked, Row}
 use Rattle.wordrows.specs.Cells.{eitherOf, Added, Mark}
 

@@ -6,7 +6,6 @@ use mathlib.Core.Logic.{⊎-elim}
 use Prim.Native.Nat.{ℕ, _+_, _≤_, _<_}
 use native.Mathlib.Omega.{arith}
 use borrow.Author.Count.{below-more}
-use lib.ListN.{length}
 use Rattle.transducer.specs.Limits.{mostStates}
 use Rattle.transducer.specs.StateSet.{has, In}
 use Rattle.transducer.specs.declared.StateSet.{StateSet}

@@ -11,7 +11,7 @@ use Rattle.transducer.specs.Limits.{mostStates}
 use Rattle.product.specs.Machine.{Leaves, Follows}
 use Rattle.product.specs.Numbers.{noTransition}
 use Rattle.wordrows.specs.Leads.{Lent, Leads}
-use Rattle.wordrows.specs.Rows.{cellAt, placeOf, Marked, Row, Blank, From, Entered, Swept}
+use Rattle.wordrows.specs.Rows.{cellAt, placeOf, Marked, Row, Blank, From, Swept}
 use Rattle.wordrows.specs.Cells.{Grows, Done, Closed, Goes, Ready, Followed, Expanded, Filled}
 use Rattle.wordrows.proofs.GrowLaws.{from-join, grows-none, grows-both, done-kept, goes-none, goes-both}
 

@@ -1,7 +1,6 @@
 -- `pass` meets its contract. The loop's invariant: the transitions below l are gone through. Assumes nothing.
 use mathlib.Core.Path.{_≡_, sym, _∙_}
 use Prim.Native.Nat.{_-_, _≤_, _<_}
-use borrow.Author.Needs.{needs}
 use native.Mathlib.Omega.{arith}
 use Rattle.product.specs.Machine.{countOf}
 use Rattle.closure.specs.Closure.{Passed}

@@ -1,6 +1,6 @@
 -- `expand` meets its contract. The loop's invariant: l is a transition that leaves the state q, or none is left; and those before l are done. Assumes
 -- nothing.
-use mathlib.Core.Path.{_≡_, sym, _∙_}
+use mathlib.Core.Path.{sym, _∙_}
 use mathlib.Core.List.{List}
 use Prim.Native.Nat.{ℕ, _+_, _-_}
 use native.Mathlib.Omega.{arith}

@@ -1,5 +1,5 @@
 -- `follow` meets its contract. Assumes nothing.
-use mathlib.Core.Path.{_≡_, sym, _∙_}
+use mathlib.Core.Path.{sym, _∙_}
 use borrow.Author.Needs.{needs}
 use Rattle.wordrows.proofs.GrowLaws.{followed-next, followed-here, followed-empty, followed-none}
 use Rattle.wordrows.proofs.follow.Statement.{statement}

@@ -1,11 +1,10 @@
 -- `sweep` meets its contract. The loop's invariant: the cells below j are done. Assumes nothing.
-use mathlib.Core.Path.{_≡_, refl, sym, _∙_}
+use mathlib.Core.Path.{sym, _∙_}
 use mathlib.Core.Logic.{⊎-elim}
-use Prim.Native.Nat.{_+_, _-_, _≤_}
+use Prim.Native.Nat.{_+_, _-_}
 use borrow.Author.Needs.{needs}
 use native.Mathlib.Omega.{arith}
 use lib.ListN.{length}
-use Rattle.wordrows.specs.Limits.{mostOutput}
 use Rattle.wordrows.proofs.SweepLaws.{Sweeping, sweeping-none, sweeping-more, sweeping-skip, sweeping-all}
 use Rattle.wordrows.proofs.sweep.Statement.{statement}
 use Rattle.wordrows.proofs.sweep.Tie as tie
