@@ -26,10 +26,10 @@
  *     7    a lent list is too short: for the result (yotselina_translate, yotselina_write), else below its size
  *     9    the input word has over 255 codes (yotselina_translate)
  *     10   an input code is 0 or over 250
- *     11   no accepting path reads the input word
+ *     11   no accepting path reads the input word (yotselina_translate)
  *     12   the file has over 13,202 bytes
  *     13   the input word has over 63 codes, or the output word over 127 (yotselina_accepts)
- *     14   an output code is 0 or over 250
+ *     14   an output code is 0 or over 250 (yotselina_accepts)
  *     100  the list `answer` is too short
  *
  *   Checked in this order: 100; the file's refusals, from left to right: 1 to 6, then 12; then those of the call, in the order that stands

@@ -1,5 +1,5 @@
--- What each exported function returns and leaves. f, x, y, input and the buffers b are what is lent, a is the answer list; a name with a prime is
--- what that list holds afterwards.
+-- What each exported function returns and leaves. f, x, y, input, output and the buffers b are what is lent, a is the answer list; a name with a prime
+-- is what that list holds afterwards.
 use mathlib.Core.Path.{_≡_}
 use mathlib.Core.Bool.{Bool, true, false, cond}
 use mathlib.Core.List.{List, [], _∷_, map}

@@ -42,7 +42,7 @@ pub record Boundary : Type 0 where
   pub accepts : {f input output a a₁ a₂ : List ℕ} {r₁ r₂ : ℕ} → AcceptsGiven f input output a a₁ r₁ → AcceptsGiven f input output a a₂ r₂
       → (r₁ ≡ r₂) × (a₁ ≡ a₂)
   -- document 02, job 1: for a single table, yes agrees with what the translator gives when lent the full 65,528 places; for a file and words that the
-  -- word test does not refuse
+  -- word test does not refuse. a and b are the answer lists of the two calls, out is the translation's buffer
   pub agreement : {f input output a a′ out out′ b b′ : List ℕ} {r s : ℕ} → Functional (tableOf f) → acceptsCode f input output a ≡ 0
       → mostWritten ≤ length out → translateAnswer ≤ length b → AcceptsGiven f input output a a′ r → TranslationGiven f input out out′ b b′ s
       → (getD a′ 0 0 ≡ 1) ↔ OutputGiven output out′ b′ s

@@ -1,4 +1,4 @@
-// The library that a unit links: document 01's calls for C, over lists and numbers only. Each returns 0, or a refusal as one number (`refusalCode` of the
+// The library that a unit links: the documents' calls for C, over lists and numbers only. Each returns 0, or a refusal as one number (`refusalCode` of the
 // crate `answers`); a refusal changes no list. Where the answer is several numbers they go to the front of the list `answer`, whose length is
 // looked at before anything else. The contracts cite specs/Calls.antt; specs/Laws.antt says what they determine.
 ghost use mathlib.Core.Path.{_≡_};

@@ -14,7 +14,7 @@ use Rattle.wordrows.specs.Rows.{cellAt, placeOf, Marked, Row, From, Ente
 
 -- ---- one mark
 
--- the first number, or the second where that is 0
+-- the first number, or the second where the first is 0
 unfoldable pub eitherOf : ℕ → ℕ → ℕ
 eitherOf zero b = b
 eitherOf (suc a) b = suc a
@@ -34,7 +34,7 @@ pub data Mark (closures row : List ℕ) (j q : ℕ) (row′ : List ℕ) : Type 0
 module _ (m written output : List ℕ) where
   -- ---- the rows grow
 
-  -- `here` and `next` are rows, and have grown to here′ and next′: what was marked is marked, and what is marked is marked for a reason
+  -- `here` and `next` have grown to the rows here′ and next′: what was marked is marked, and what is marked is marked for a reason
   pub record Grows (code : ℕ) (here next here′ next′ : List ℕ) : Type 0 where
     pub row : Row m written output here′
     pub row-next : Row m written output next′
@@ -62,7 +62,7 @@ module _ (m written output : List ℕ) where
     pub row : Row m written output here
     pub row-next : Row m written output next
 
-  -- the rows grow, and nothing is marked in the cell or before it
+  -- the rows grow, and in the row `here` nothing new is marked in the cell j or before it
   pub record Goes (code j : ℕ) (here next here′ next′ : List ℕ) : Type 0 where
     pub grows : Grows code here next here′ next′
     pub below : (i q : ℕ) → i ≤ j → Marked here′ i q → Marked here i q

@@ -25,7 +25,7 @@ pub record Marked (row : List ℕ) (j q : ℕ) : Type 0 where
   pub state : q < mostStates
   pub mark : 0 < getD row (placeOf j q) 0
 
--- a row without a mark
+-- a row that holds 0 everywhere
 pub record Blank (row : List ℕ) : Type 0 where
   pub size : length row ≡ rowPlaces
   pub clear : (i : ℕ) → getD row i 0 ≡ 0
@@ -50,7 +50,7 @@ module _ (m written output : List ℕ) where
     root : {j q : ℕ} → P j q → From P j q
     silent : {j q l k p : ℕ} → From P j q → Leads m written output 0 j q l k p → From P k p
 
-  -- all that satisfies P is marked, and nothing but what such transitions lead to from it
+  -- a row in which all that satisfies P is marked, and nothing but what such transitions lead to from it
   pub record Begins (P : ℕ → ℕ → Type 0) (row : List ℕ) : Type 0 where
     pub rows : Row row
     pub all : (j q : ℕ) → P j q → Marked row j q

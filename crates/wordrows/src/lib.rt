@@ -1,8 +1,9 @@
 // The search over two words: which states do paths come to that read what stands before a position in the input word and write what stands before
-// a position in the output word? For a position in the input word the sets of states, one for each position in the output word, are a row (specs/Rows.antt);
-// `sweep` goes on with transitions that read nothing until the row is closed, and begins the next row with what transitions that read the next code lead
-// to. Only two rows are alive, 8,448 bytes. The transducer is lent as three lists: its machine (`product::machine`), what its transitions write
-// (`outputs`), and for each state those that transitions which read and write nothing lead to (`closure`): with a state these are marked at once.
+// a position in the output word? For a position in the input word the sets of states, one for each position in the output word, are a row
+// (specs/Rows.antt); `sweep` goes on with transitions that read nothing until the row is closed, and begins the next row with what transitions that read
+// the next code lead to. Only two rows are alive, 8,448 bytes. The transducer is lent as three lists: its machine (`product::machine`), what its
+// transitions write (`outputs`), and for each state those that transitions which read and write nothing lead to (`closure`): with a state these are
+// marked at once.
 ghost use mathlib.Core.Path.{_≡_};
 ghost use mathlib.Core.Bool.{true};
 ghost use mathlib.Core.Logic.{_↔_};
@@ -207,7 +208,7 @@ fn add(row: &mut [u8], to: usize, flags: &[u8], from: usize)
     }
 }
 
-// The first number, or the second where that is 0.
+// The first number, or the second where the first is 0.
 fn either(a: u8, b: u8) -> u8
     ensures { λ r. ⌜ r ≡ eitherOf a b ⌝ }
 {

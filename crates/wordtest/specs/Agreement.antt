@@ -22,7 +22,8 @@ pub record Gives (output out : List ℕ) (r : Translation) : Type 0 where
   pub size : lengthOf r ≡ length output
   pub codes : take (length output) out ≡ output
 
--- any answer that the word test may give is yes exactly when any answer that the translator may give, lent 65,528 places or more, is this output
+-- on a functional transducer, for words that are not refused: any answer that the word test may give is yes exactly when any answer that the
+-- translator may give, lent 65,528 places or more, is this output
 abbrev pub Agreement : Transducer → List ℕ → List ℕ → Type 0
 Agreement t input output =
     Functional t → refusalOf t input output ≡ 0
