@@ -8,3 +8,4 @@ pub mod ReadWritten
 pub mod WrittenRead
 pub mod Calls
 pub mod RoundTrips
+pub mod Repeats

@@ -1,99 +1,119 @@
--- Transducers that are equal up to the order of their transitions have the same relation, the same useful states and pairs, and are
--- functional together. All of it follows from `Within` both ways: what each of them has stands in the other. Assumes nothing.
-use mathlib.Core.Path.{_≡_, refl, sym, ap₂, _∙_}
-use mathlib.Core.Bool.{Bool, true, false, and-eq-true-iff}
-use mathlib.Core.List.{List, [], _∷_, List·Memᴰ·head, List·Memᴰ·tail}
-use mathlib.Core.Logic.{_↔_}
-use Prim.Native.Nat.{ℕ, _<_}
+-- Transducers with the same lines, repeats not counted: to be alike is an equivalence; which changes of its lines leave a transducer alike; alike ones
+-- have the same relation, the same useful states and pairs, and are functional together. The last follows from `Within` both ways: what each of them
+-- has stands in the other. Assumes nothing.
+use mathlib.Core.Path.{_≡_, refl, sym, _∙_}
+use mathlib.Core.List.{List, [], _∷_, _++_, List·Memᴰ·head, List·Memᴰ·tail, List·Memᴰ·cases-cons, List·Memᴰ·eq-of-singleton, List·Memᴰ·append-cases, Memᴰ·cast, Memᴰ·append-left, Memᴰ·append-right}
+use mathlib.Core.Logic.{_≢_, _↔_, ⊎-elim}
+use Prim.Native.Nat.{ℕ, zero, suc, _<_}
+use native.Mathlib.Decide.{ℕ-discrete}
 use native.Mathlib.Omega.{arith}
-use lib.Dec.{eqb}
-use borrow.Author.Tests.{eqb-true, eq-eqb}
-use Rattle.transducer.specs.Lines.{linesOf, Among}
+use lib.ListN.{length, getD, set, length-set}
+use lib.Seq.{getD-set-same, getD-set-other}
+use Rattle.transducer.specs.Transition.{at, outside}
+use Rattle.transducer.specs.Lines.{linesOf, transducerOf, appended, Among, AllAmong}
 use Rattle.transducer.specs.Paths.{Functional, Equivalent}
 use Rattle.transducer.specs.Useful.{UsefulState, UsefulPair}
-use Rattle.transducer.specs.Alike.{sameCodes, sameTransition, times, Alike}
-use Rattle.transducer.specs.declared.OutputCode.{OutputCode}
+use Rattle.transducer.specs.Alike.{Alike, exchanged}
 use Rattle.transducer.specs.declared.Transition.{Transition}
 use Rattle.transducer.specs.declared.Transducer.{Transducer}
+use Rattle.transducer.proofs.LineLaws.{place-among, lines-long, line-at, at-among, among-numbered, made-lines, appended-lines}
 use Rattle.transducer.proofs.WithinLaws.{Within, relates-within, functional-within, useful-state-within, useful-pair-within}
 
--- ---- the test of two transitions holds exactly of equal ones
+-- ---- to be alike is an equivalence
 
-sameCodes-equal : (x y : List OutputCode) → sameCodes x y ≡ true → x ≡ y
-unfolding sameCodes
-sameCodes-equal [] [] h = refl
-sameCodes-equal [] (b ∷ y) h = cc
-sameCodes-equal (a ∷ x) [] h = cc
-sameCodes-equal (a ∷ x) (b ∷ y) h =
-    let k = and-eq-true-iff _ _ .0 h in
-    let code = eqb-true _ _ (k .0) in
-    ap₂ _∷_ (λ i. record { 0 = code i }) (sameCodes-equal x y (k .1))
+pub alike-self : (t : Transducer) → Alike t t
+alike-self t = record { states = refl; starts = λ q. refl; finals = λ q. refl; there = λ v m. m; back = λ v m. m }
 
-eqb-self : (n : ℕ) → eqb n n ≡ true
-eqb-self n = eq-eqb n n refl
+pub alike-sym : {t t′ : Transducer} → Alike t t′ → Alike t′ t
+alike-sym h = record { states = sym (h .states); starts = λ q. sym (h .starts q); finals = λ q. sym (h .finals q); there = h .back; back = h .there }
 
-sameCodes-self : (x : List OutputCode) → sameCodes x x ≡ true
-unfolding sameCodes
-sameCodes-self [] = refl
-sameCodes-self (a ∷ x) = simp (eqb-self, sameCodes-self x)
-
-sameTransition-equal : (v w : Transition) → sameTransition v w ≡ true → v ≡ w
-unfolding sameTransition
-sameTransition-equal v w h =
-    let k₁ = and-eq-true-iff _ _ .0 h in
-    let k₂ = and-eq-true-iff _ _ .0 (k₁ .0) in
-    let k₃ = and-eq-true-iff _ _ .0 (k₂ .0) in
-    let k₄ = and-eq-true-iff _ _ .0 (k₃ .0) in
-    let from = eqb-true _ _ (k₄ .0) in
-    let to = eqb-true _ _ (k₄ .1) in
-    let input = eqb-true _ _ (k₃ .1) in
-    let count = eqb-true _ _ (k₂ .1) in
-    let output = sameCodes-equal _ _ (k₁ .1) in
-    λ i. record { from = from i; to = to i; input = record { 0 = input i }; count = count i; output = output i }
-
-sameTransition-self : (v : Transition) → sameTransition v v ≡ true
-unfolding sameTransition
-sameTransition-self v = simp (eqb-self, sameCodes-self)
-
--- ---- a transition is one of the lines exactly where it is counted
-
--- each line is counted
-among-counted : {v : Transition} {lines : List Transition} → Among v lines → 0 < times lines v
-unfolding times
-among-counted {v} (List·Memᴰ·head e) = rw (← e, sameTransition-self v) (omega arith)
-among-counted (List·Memᴰ·tail m) = omega (arith, among-counted m)
-
--- what is counted is one of them
-counted-among : (v : Transition) (lines : List Transition) → 0 < times lines v → Among v lines
-unfolding times
-counted-among v [] h = absurd (omega arith)
-counted-among v (w ∷ lines) h = go (sameTransition v w) refl h (counted-among v lines)
-  where
-    go : (b : Bool) → sameTransition v w ≡ b → 0 < times (w ∷ lines) v → (0 < times lines v → Among v lines) → Among v (w ∷ lines)
-    go true e h rest = List·Memᴰ·head (sameTransition-equal v w e)
-    go false e h rest = let counted = rw e at h in List·Memᴰ·tail (rest (omega arith))
-
--- ---- equal up to the order of transitions
-
--- as many times, so at least once: the one place where the counts are used
-pub alike-within : {t t′ : Transducer} → Alike t t′ → Within t t′
-alike-within {t} {t′} h =
+pub alike-trans : {t t′ t″ : Transducer} → Alike t t′ → Alike t′ t″ → Alike t t″
+alike-trans h k =
     record {
-      starts = λ q k. sym (h .starts q) ∙ k;
-      finals = λ q k. sym (h .finals q) ∙ k;
-      transitions = λ v m. counted-among v (linesOf t′) (rw (h .transitions v) at (among-counted m));
+      states = h .states ∙ k .states;
+      starts = λ q. h .starts q ∙ k .starts q;
+      finals = λ q. h .finals q ∙ k .finals q;
+      there = λ v m. k .there v (h .there v m);
+      back = λ v m. h .back v (k .back v m);
     }
 
--- a transducer is alike to itself
-pub alike-self : (t : Transducer) → Alike t t
-alike-self t = record { states = refl; starts = λ q. refl; finals = λ q. refl; transitions = λ v. refl }
+-- ---- what is alike
 
--- being alike goes both ways
-pub alike-sym : {t t′ : Transducer} → Alike t t′ → Alike t′ t
-alike-sym h =
-    record { states = sym (h .states); starts = λ q. sym (h .starts q); finals = λ q. sym (h .finals q); transitions = λ v. sym (h .transitions v) }
+-- t with any lines that are the same but for repeats and order
+pub lines-alike : (t : Transducer) (lines : List Transition) → AllAmong (linesOf t) lines → AllAmong lines (linesOf t)
+    → Alike t (transducerOf (t .states) (t .starts) (t .finals) lines)
+unfolding transducerOf
+lines-alike t lines there back =
+    let same = made-lines (t .states) (t .starts) (t .finals) lines in
+    record {
+      states = refl;
+      starts = λ q. refl;
+      finals = λ q. refl;
+      there = λ v m. rw same (there v m);
+      back = λ v m. back v (rw same at m);
+    }
 
--- transducers that are alike realize the same relation, have the same useful states and pairs, and are functional together
+-- t with one line more behind the last, exactly where that line stands in t already
+pub appended-alike : (t : Transducer) (v : Transition) → Alike t (appended t v) ↔ Among v (linesOf t)
+appended-alike t v = (
+  λ h. h .back v (rw (appended-lines t v) (Memᴰ·append-right (linesOf t) (List·Memᴰ·head refl))),
+  λ m. lines-alike t (linesOf t ++ (v ∷ []))
+      (λ w k. Memᴰ·append-left (v ∷ []) k)
+      (λ w k. ⊎-elim (λ (k : Among w (linesOf t)). k) (λ (k : Among w (v ∷ [])). Memᴰ·cast (List·Memᴰ·eq-of-singleton k) m) (List·Memᴰ·append-cases (linesOf t) k)),
+)
+
+-- so where a line is pasted a second time
+pub pasted-alike : (t : Transducer) (l : ℕ) → l < t .count → Alike t (appended t (at t l))
+pasted-alike t l h = appended-alike t (at t l) .1 (at-among t l h)
+
+-- what stands among the lines after one has been put in the place of another
+set-among : (lines : List Transition) (l : ℕ) {w : Transition} {lines′ : List Transition} → Among w lines′ → AllAmong lines lines′
+    → AllAmong (set lines l w) lines′
+set-among [] l own all v k = all v k
+set-among (u ∷ lines) zero own all v k = ⊎-elim (λ e. Memᴰ·cast e own) (λ i. all v (List·Memᴰ·tail i)) (List·Memᴰ·cases-cons k)
+set-among (u ∷ lines) (suc l) own all v k =
+    ⊎-elim (λ e. all v (List·Memᴰ·head e)) (set-among lines l own (λ w i. all w (List·Memᴰ·tail i)) v) (List·Memᴰ·cases-cons k)
+
+-- t with lines l and m exchanged
+module _ (t : Transducer) (l m : ℕ) (hl : l < t .count) (hm : m < t .count) where
+  abbrev once : List Transition
+  once = set (linesOf t) l (at t m)
+
+  abbrev twice : List Transition
+  twice = set once m (at t l)
+
+  once-long : length once ≡ t .count
+  once-long = length-set (linesOf t) l (at t m) ∙ lines-long t
+
+  -- each of its lines stands there, at some place j
+  stands : (v : Transition) (j : ℕ) → j < t .count → getD twice j outside ≡ v → Among v twice
+  stands v j h e = Memᴰ·cast (sym e) (place-among twice j (omega (arith, length-set once m (at t l), once-long)))
+
+  line-stands : (k : ℕ) → k < t .count → Among (at t k) twice
+  line-stands k h = go (ℕ-discrete k l) (ℕ-discrete k m)
+    where
+      go : Dec (k ≡ l) → Dec (k ≡ m) → Among (at t k) twice
+      go (yes e) d = rw e (stands (at t l) m hm (getD-set-same once m (at t l) outside (omega (arith, once-long))))
+      go (no z) (yes e) =
+          let other : l ≢ m = λ i. z (e ∙ sym i) in
+          let there = getD-set-same (linesOf t) l (at t m) outside (omega (arith, lines-long t)) in
+          rw e (stands (at t m) l hl (getD-set-other once m l (at t l) outside other ∙ there))
+      go (no z) (no y) =
+          stands (at t k) k h (getD-set-other once m k (at t l) outside y ∙ getD-set-other (linesOf t) l k (at t m) outside z ∙ line-at t k h)
+
+  pub exchanged-alike : Alike t (exchanged t l m)
+  exchanged-alike =
+      lines-alike t twice
+      (λ v k. let n = among-numbered t k in rw (n .same) at (line-stands (n .number) (n .below)))
+      (set-among once m (at-among t l hl) (set-among (linesOf t) l (at-among t m hm) (λ v k. k)))
+
+-- ---- what alike transducers have in common
+
+-- what one of them has stands in the other
+pub alike-within : {t t′ : Transducer} → Alike t t′ → Within t t′
+alike-within h = record { starts = λ q k. sym (h .starts q) ∙ k; finals = λ q k. sym (h .finals q) ∙ k; transitions = h .there }
+
+-- the relation, the useful states and pairs, and whether they are functional
 module _ {t t′ : Transducer} (h : Alike t t′) where
   there : Within t t′
   there = alike-within h

@@ -12,6 +12,6 @@ pub mod MoveLaws
 pub mod LineLaws
 pub mod WithinLaws
 pub mod AlikeLaws
-pub mod ExchangedLaws
+pub mod CountedLaws
 pub mod SizeLaws
 pub mod ReversalLaws

@@ -1,19 +1,19 @@
 -- A transducer and the list of its lines: each makes the other, and the lines tell what the transitions are and whether the rules are kept.
 -- Assumes nothing.
-use mathlib.Core.Path.{_≡_, refl, sym, ap, _∙_}
+use mathlib.Core.Path.{_≡_, refl, sym, ap, subst, _∙_}
 use mathlib.Core.Bool.{true}
-use mathlib.Core.List.{List, [], _∷_, _++_, List·Memᴰ·head, List·Memᴰ·tail}
+use mathlib.Core.List.{List, [], _∷_, _++_, List·Memᴰ·head, List·Memᴰ·tail, List·Memᴰ·eq-of-singleton, List·Memᴰ·append-cases}
 use mathlib.Core.Logic.{_↔_, ⊎-elim}
 use Prim.Native.Nat.{ℕ, zero, suc, _+_, _-_, _≤_, _<_}
 use native.Mathlib.Nat.{eq-or-lt-of-le, le-of-suc-le-suc}
 use native.Mathlib.Omega.{arith}
 use lib.ListN.{length, getD, replicate, length-append, length-replicate, getD-replicate, List·getD-append}
 use lib.Seq.{getD-at, getD-append-add, ext-getD}
-use Rattle.transducer.specs.Limits.{mostTransitions, mostOutputs}
+use Rattle.transducer.specs.Limits.{mostStates, mostTransitions, mostOutputs}
 use Rattle.transducer.specs.Transition.{at, outside, firsts, outputAt}
 use Rattle.transducer.specs.Blank.{clearTransition}
 use Rattle.transducer.specs.Valid.{Used, Clear, Valid, Shaped, usedOf, codesOf}
-use Rattle.transducer.specs.Lines.{linesOf, transducerOf, Among, lineOf, Keeps}
+use Rattle.transducer.specs.Lines.{linesOf, transducerOf, appended, Among, lineOf, Keeps}
 use Rattle.transducer.specs.declared.OutputCode.{OutputCode}
 use Rattle.transducer.specs.declared.StateSet.{StateSet}
 use Rattle.transducer.specs.declared.Transition.{Transition}
@@ -185,3 +185,57 @@ module _ (n : ℕ) (starts finals : StateSet) (lines : List Transition) where
       beyond-clear = λ l h b. rw (made-clear n starts finals lines l h b) clear-clear;
     },
   )
+
+  -- and its arrays have their lengths where those of its parts do
+  pub made-shaped : length (starts .member) ≡ mostStates → length (finals .member) ≡ mostStates → length lines ≤ mostTransitions
+      → ((v : Transition) → Among v lines → length (v .output) ≡ mostOutputs) → Shaped (transducerOf n starts finals lines)
+  unfolding transducerOf
+  made-shaped s f few sizes =
+      record {
+        starts = s;
+        finals = f;
+        transitions =
+            let rest = replicate (mostTransitions - length lines) clearTransition in
+            omega (arith, length-append lines rest, length-replicate (mostTransitions - length lines) clearTransition);
+        outputs = λ l k.
+            ⊎-elim
+            (λ (h : length lines ≤ l). rw (made-clear n starts finals lines l h k) (length-replicate {A = OutputCode} mostOutputs (record { 0 = 0 })))
+            (λ (h : l < length lines). rw (made-at n starts finals lines l h) (sizes _ (place-among lines l h)))
+            (le-or-lt (length lines) l);
+      }
+
+-- ---- one line more
+
+module _ (t : Transducer) (v : Transition) where
+  -- behind the lines of t, which stay as they are
+  pub appended-lines : linesOf (appended t v) ≡ linesOf t ++ (v ∷ [])
+  appended-lines = made-lines (t .states) (t .starts) (t .finals) (linesOf t ++ (v ∷ []))
+
+  one-more : length (linesOf t ++ (v ∷ [])) ≡ t .count + 1
+  one-more = omega (arith, length-append (linesOf t) (v ∷ []), lines-long t)
+
+  -- what holds of each of them and of v
+  each-line : (P : Transition → Type 0) → ((l : ℕ) → l < t .count → P (at t l)) → P v → (w : Transition) → Among w (linesOf t ++ (v ∷ [])) → P w
+  each-line P lines last w m =
+      ⊎-elim
+      (λ k. let n = among-numbered t k in subst P (n .same) (lines (n .number) (n .below)))
+      (λ k. subst P (sym (List·Memᴰ·eq-of-singleton k)) last)
+      (List·Memᴰ·append-cases (linesOf t) m)
+
+  -- the rules are kept where there is room and v keeps them
+  pub appended-valid : Valid t → t .count < mostTransitions → Used (t .states) v → Valid (appended t v)
+  appended-valid h room used =
+      made-valid (t .states) (t .starts) (t .finals) (linesOf t ++ (v ∷ [])) .1
+      (record {
+        some-state = h .some-state;
+        few-states = h .few-states;
+        start-state = h .start-state;
+        final-state = h .final-state;
+        few-lines = omega (arith, one-more);
+        used = each-line (Used (t .states)) (h .used) used;
+      })
+
+  pub appended-shaped : Shaped t → t .count < mostTransitions → length (v .output) ≡ mostOutputs → Shaped (appended t v)
+  appended-shaped s room size =
+      made-shaped (t .states) (t .starts) (t .finals) (linesOf t ++ (v ∷ [])) (s .starts) (s .finals) (omega (arith, one-more))
+      (each-line (λ w. length (w .output) ≡ mostOutputs) (λ l h. s .outputs l (omega arith)) size)

@@ -5,7 +5,7 @@ use mathlib.Core.List.{List, [], _∷_, _++_}
 use Prim.Native.Nat.{ℕ}
 use Rattle.transducer.specs.StateSet.{In}
 use Rattle.transducer.specs.Transition.{InputWord, OutputWord, at}
-use Rattle.transducer.specs.Lines.{linesOf, transducerOf, Among}
+use Rattle.transducer.specs.Lines.{linesOf, transducerOf, AllAmong}
 use Rattle.transducer.specs.Paths.{Path, here, step, reads, writes, Relates, Functional}
 use Rattle.transducer.specs.Useful.{Through, UsefulState, UsefulPair}
 use Rattle.transducer.specs.declared.StateSet.{StateSet}
@@ -18,10 +18,10 @@ use Rattle.transducer.proofs.LineLaws.{at-among, among-numbered, made-l
 pub record Within (t t′ : Transducer) : Type 0 where
   pub starts : (q : ℕ) → In (t .starts) q → In (t′ .starts) q
   pub finals : (q : ℕ) → In (t .finals) q → In (t′ .finals) q
-  pub transitions : (v : Transition) → Among v (linesOf t) → Among v (linesOf t′)
+  pub transitions : AllAmong (linesOf t) (linesOf t′)
 
 -- it is so where the lines of which one is made stand among those of the other
-pub lines-within : (n : ℕ) (starts finals : StateSet) {lines lines′ : List Transition} → ((v : Transition) → Among v lines → Among v lines′)
+pub lines-within : (n : ℕ) (starts finals : StateSet) {lines lines′ : List Transition} → AllAmong lines lines′
     → Within (transducerOf n starts finals lines) (transducerOf n starts finals lines′)
 unfolding transducerOf
 lines-within n starts finals {lines} {lines′} among =

@@ -1,6 +1,6 @@
 -- A transducer as its number of states, its two sets of states and the list of its transitions (document 01: lines).
 use mathlib.Core.Bool.{Bool, _&&_}
-use mathlib.Core.List.{List, _++_, List·Memᴰ}
+use mathlib.Core.List.{List, [], _∷_, _++_, List·Memᴰ}
 use Prim.Native.Nat.{ℕ, _-_, _≤_, _<_}
 use lib.ListN.{length, replicate}
 use Rattle.transducer.specs.Limits.{mostStates, mostTransitions}
@@ -27,9 +27,17 @@ transducerOf n starts finals lines =
       transitions = lines ++ replicate (mostTransitions - length lines) clearTransition;
     }
 
+-- t with the line v behind its last
+abbrev pub appended : Transducer → Transition → Transducer
+appended t v = transducerOf (t .states) (t .starts) (t .finals) (linesOf t ++ (v ∷ []))
+
 -- v is one of the lines
 abbrev pub Among : Transition → List Transition → Type 0
 Among v lines = List·Memᴰ v lines
+
+-- each of these lines is one of those
+abbrev pub AllAmong : List Transition → List Transition → Type 0
+AllAmong lines lines′ = (v : Transition) → Among v lines → Among v lines′
 
 -- a line keeps the rules of a transition in use, among n states: as a test, `Used` being the same as facts
 unfoldable pub lineOf : ℕ → Transition → Bool
