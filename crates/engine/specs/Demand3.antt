@@ -72,7 +72,8 @@ pub record Demand3 (f : List ℕ) : Type 0 where
       → {input out₀ out : List ℕ} {q : FileTranslation} → TranslatedInFull f input out₀ out q
       → length input ≤ mostWord → (π : List ℕ) → Accepting (tableOf f) π → reads (tableOf f) π ≡ wordOf input
       → TheOutput (tableOf f) input out₀ out q
-  -- "Any two such files whose tables are alike, whatever the order of their lines, are both 'split' or both 'single', with the same u."
+  -- "Any two such files whose tables are alike, whatever the order of their lines, are both 'split' or both 'single', with the same u." (Since document
+  -- 02, job 2, a line may stand in them any number of times, so that they may have different numbers of lines.)
   pub alike : {b b′ : Buffers} {r : Judgement} → JudgedInFull f b b′ r
       → {g : List ℕ} → Taken g → Alike (tableOf f) (tableOf g) → {d d′ : Buffers} {s : Judgement} → JudgedInFull g d d′ s
       → (r .split ≡ s .split) × (r .useful ≡ s .useful)

@@ -2,7 +2,7 @@
 -- have the same relation, the same useful states and pairs, and are functional together. The last follows from `Within` both ways: what each of them
 -- has stands in the other. Assumes nothing.
 use mathlib.Core.Path.{_≡_, refl, sym, _∙_}
-use mathlib.Core.List.{List, [], _∷_, _++_, List·Memᴰ·head, List·Memᴰ·tail, List·Memᴰ·cases-cons, List·Memᴰ·eq-of-singleton, List·Memᴰ·append-cases, Memᴰ·cast, Memᴰ·append-left, Memᴰ·append-right}
+use mathlib.Core.List.{List, [], _∷_, _++_, List·Memᴰ·head, List·Memᴰ·tail, List·Memᴰ·cases-cons, Memᴰ·cast, Memᴰ·append-left, Memᴰ·append-right}
 use mathlib.Core.Logic.{_≢_, _↔_, ⊎-elim}
 use Prim.Native.Nat.{ℕ, zero, suc, _<_}
 use native.Mathlib.Decide.{ℕ-discrete}
@@ -16,7 +16,7 @@ use Rattle.transducer.specs.Useful.{UsefulState, UsefulPair}
 use Rattle.transducer.specs.Alike.{Alike, exchanged}
 use Rattle.transducer.specs.declared.Transition.{Transition}
 use Rattle.transducer.specs.declared.Transducer.{Transducer}
-use Rattle.transducer.proofs.LineLaws.{place-among, lines-long, line-at, at-among, among-numbered, made-lines, appended-lines}
+use Rattle.transducer.proofs.LineLaws.{place-among, lines-long, line-at, at-among, among-numbered, made-lines, appended-lines, each-line}
 use Rattle.transducer.proofs.WithinLaws.{Within, relates-within, functional-within, useful-state-within, useful-pair-within}
 
 -- ---- to be alike is an equivalence
@@ -57,16 +57,14 @@ lines-alike t lines there back =
 pub appended-alike : (t : Transducer) (v : Transition) → Alike t (appended t v) ↔ Among v (linesOf t)
 appended-alike t v = (
   λ h. h .back v (rw (appended-lines t v) (Memᴰ·append-right (linesOf t) (List·Memᴰ·head refl))),
-  λ m. lines-alike t (linesOf t ++ (v ∷ []))
-      (λ w k. Memᴰ·append-left (v ∷ []) k)
-      (λ w k. ⊎-elim (λ (k : Among w (linesOf t)). k) (λ (k : Among w (v ∷ [])). Memᴰ·cast (List·Memᴰ·eq-of-singleton k) m) (List·Memᴰ·append-cases (linesOf t) k)),
+  λ m. lines-alike t (linesOf t ++ (v ∷ [])) (λ w k. Memᴰ·append-left (v ∷ []) k) (each-line t v (λ w. Among w (linesOf t)) (at-among t) m),
 )
 
--- so where a line is pasted a second time
+-- so where line l is pasted a second time
 pub pasted-alike : (t : Transducer) (l : ℕ) → l < t .count → Alike t (appended t (at t l))
 pasted-alike t l h = appended-alike t (at t l) .1 (at-among t l h)
 
--- what stands among the lines after one has been put in the place of another
+-- lines that are all among others, after one of these others has been put in the place of one of them
 set-among : (lines : List Transition) (l : ℕ) {w : Transition} {lines′ : List Transition} → Among w lines′ → AllAmong lines lines′
     → AllAmong (set lines l w) lines′
 set-among [] l own all v k = all v k
@@ -85,10 +83,11 @@ module _ (t : Transducer) (l m : ℕ) (hl : l < t .count) (hm : m < t .count) wh
   once-long : length once ≡ t .count
   once-long = length-set (linesOf t) l (at t m) ∙ lines-long t
 
-  -- each of its lines stands there, at some place j
+  -- what stands at a place of it
   stands : (v : Transition) (j : ℕ) → j < t .count → getD twice j outside ≡ v → Among v twice
   stands v j h e = Memᴰ·cast (sym e) (place-among twice j (omega (arith, length-set once m (at t l), once-long)))
 
+  -- each line of t stands at l, at m or where it stood
   line-stands : (k : ℕ) → k < t .count → Among (at t k) twice
   line-stands k h = go (ℕ-discrete k l) (ℕ-discrete k m)
     where

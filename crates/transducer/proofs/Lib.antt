@@ -12,6 +12,5 @@ pub mod MoveLaws
 pub mod LineLaws
 pub mod WithinLaws
 pub mod AlikeLaws
-pub mod CountedLaws
 pub mod SizeLaws
 pub mod ReversalLaws

@@ -10,7 +10,7 @@ use native.Mathlib.Omega.{arith}
 use lib.ListN.{length, getD, replicate, length-append, length-replicate, getD-replicate, List·getD-append}
 use lib.Seq.{getD-at, getD-append-add, ext-getD}
 use Rattle.transducer.specs.Limits.{mostStates, mostTransitions, mostOutputs}
-use Rattle.transducer.specs.Transition.{at, outside, firsts, outputAt}
+use Rattle.transducer.specs.Transition.{at, outside, firsts, outputAt, writtenBy}
 use Rattle.transducer.specs.Blank.{clearTransition}
 use Rattle.transducer.specs.Valid.{Used, Clear, Valid, Shaped, usedOf, codesOf}
 use Rattle.transducer.specs.Lines.{linesOf, transducerOf, appended, Among, lineOf, Keeps}
@@ -20,7 +20,7 @@ use Rattle.transducer.specs.declared.Transition.{Transition}
 use Rattle.transducer.specs.declared.Transducer.{Transducer}
 use Rattle.transducer.proofs.Bools.{le-or-lt, and-left, and-right, and-both}
 use Rattle.transducer.proofs.Facts.{used-facts, facts-used}
-use Rattle.transducer.proofs.SizeLaws.{length-firsts}
+use Rattle.transducer.proofs.SizeLaws.{length-firsts, length-written}
 
 -- ---- the lines of a list
 
@@ -204,6 +204,31 @@ module _ (n : ℕ) (starts finals : StateSet) (lines : List Transition) where
             (le-or-lt (length lines) l);
       }
 
+-- lines in use that leave and enter the same states, read the same and write the same are the same: nothing else of them can differ
+pub same-line : {n m : ℕ} {v w : Transition} → Used n v → Used m w → length (v .output) ≡ mostOutputs → length (w .output) ≡ mostOutputs
+    → v .from ≡ w .from → v .to ≡ w .to → v .input .0 ≡ w .input .0 → writtenBy v ≡ writtenBy w → v ≡ w
+same-line {v = v} {w} used used′ size size′ from to input written =
+    λ i. record { from = from i; to = to i; input = record { 0 = input i }; count = count i; output = output i }
+  where
+    none : OutputCode
+    none = record { 0 = 0 }
+
+    count : v .count ≡ w .count
+    count = sym (length-written v) ∙ ap length written ∙ length-written w
+
+    -- the places below the count are written, those beyond hold 0
+    place : (j : ℕ) → j < mostOutputs → outputAt v j ≡ outputAt w j
+    place j h =
+        ⊎-elim
+        (λ (k : v .count ≤ j). let e = used .beyond-zero j k h ∙ sym (used′ .beyond-zero j (omega (arith, count)) h) in λ i. record { 0 = e i })
+        (λ (k : j < v .count).
+        sym (getD-firsts (v .count) (outputAt v) none j k) ∙ ap (λ codes. getD codes j none) written
+        ∙ getD-firsts (w .count) (outputAt w) none j (omega (arith, count)))
+        (le-or-lt (v .count) j)
+
+    output : v .output ≡ w .output
+    output = ext-getD none (v .output) (w .output) (size ∙ sym size′) (λ j h. place j (omega (arith, size)))
+
 -- ---- one line more
 
 module _ (t : Transducer) (v : Transition) where
@@ -214,8 +239,8 @@ module _ (t : Transducer) (v : Transition) where
   one-more : length (linesOf t ++ (v ∷ [])) ≡ t .count + 1
   one-more = omega (arith, length-append (linesOf t) (v ∷ []), lines-long t)
 
-  -- what holds of each of them and of v
-  each-line : (P : Transition → Type 0) → ((l : ℕ) → l < t .count → P (at t l)) → P v → (w : Transition) → Among w (linesOf t ++ (v ∷ [])) → P w
+  -- what holds of each of them and of v holds of all
+  pub each-line : (P : Transition → Type 0) → ((l : ℕ) → l < t .count → P (at t l)) → P v → (w : Transition) → Among w (linesOf t ++ (v ∷ [])) → P w
   each-line P lines last w m =
       ⊎-elim
       (λ k. let n = among-numbered t k in subst P (n .same) (lines (n .number) (n .below)))

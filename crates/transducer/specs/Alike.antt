@@ -8,7 +8,8 @@ use Rattle.transducer.specs.Transition.{at}
 use Rattle.transducer.specs.Lines.{linesOf, transducerOf, AllAmong}
 use Rattle.transducer.specs.declared.Transducer.{Transducer}
 
--- the same number of states, start states and final states, and each line of either stands in the other, repeats not counted
+-- the same number of states, start states and final states, and each line of either stands in the other, repeats not counted; a line is what it leaves,
+-- enters, reads and writes (`same-line` of proofs/LineLaws.antt: in use, it has nothing else)
 pub record Alike (t t′ : Transducer) : Type 0 where
   pub states : t .states ≡ t′ .states
   pub starts : (q : ℕ) → has (t .starts) q ≡ has (t′ .starts) q
@@ -16,7 +17,7 @@ pub record Alike (t t′ : Transducer) : Type 0 where
   pub there : AllAmong (linesOf t) (linesOf t′)
   pub back : AllAmong (linesOf t′) (linesOf t)
 
--- t with lines l and m exchanged: it is alike to t (`exchanged-alike` of proofs/AlikeLaws.antt); so is t with a line of its own behind the last, and
--- with no other line there (`appended-alike`)
+-- t with lines l and m exchanged: it is alike to t (`exchanged-alike` of proofs/AlikeLaws.antt). With a line behind its last, t is alike to itself exactly
+-- where that line stands in it already (`appended-alike`). To be alike is an equivalence (`alike-self`, `alike-sym`, `alike-trans`).
 abbrev pub exchanged : Transducer → ℕ → ℕ → Transducer
 exchanged t l m = transducerOf (t .states) (t .starts) (t .finals) (set (set (linesOf t) l (at t m)) m (at t l))
