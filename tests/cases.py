@@ -17,6 +17,7 @@ P_LINES = ((0, 0, 1, 5), (0, 0, 1, 6))
 P = table(1, [0], [0], *P_LINES)
 D = table(4, [0], [3], (0, 1, 1, 5, 6), (1, 3, 2), (0, 2, 1), (2, 3, 2, 5, 6))
 D_SPLIT = table(4, [0], [3], (0, 1, 1, 5, 6), (1, 3, 2), (0, 2, 1), (2, 3, 2, 6, 5))
+D_TWICE = D._replace(transitions=D.transitions * 2)
 ONE_STATE = table(1, [0], [0])
 
 P_FILE = b"""T   1   1   1   2
@@ -55,6 +56,8 @@ VERDICTS = (
     ("a loop that reads and writes nothing", table(1, [0], [0], (0, 0, 0)), single(1)),
     ("table D", D, single(6)),
     ("table D, the last line writing 6 5", D_SPLIT, split(6, [1, 2], [0, 1], [2, 3], [5, 6], [6, 5])),
+    ("a line twice", table(1, [0], [0], P_LINES[0], P_LINES[0]), single(1)),
+    ("table D, each line twice", D_TWICE, single(6)),
     ("P's lines at a state that is not reached", table(2, [0], [0], (1, 1, 1, 5), (1, 1, 1, 6)), single(1)),
     ("a clash at a pair that cannot finish",
      table(4, [0], [1], (0, 1, 1, 5), (0, 2, 1, 6), (2, 2, 1, 7), (1, 3, 2, 8), (2, 3, 2, 9)), single(2)),
@@ -81,6 +84,8 @@ TRANSLATIONS = (
     ("one state, the word 1", ONE_STATE, [1], refused(11)),
     ("table D", D, [1, 2], output(5, 6)),
     ("table D, half a word", D, [1], refused(11)),
+    ("table D, each line twice", D_TWICE, [1, 2], output(5, 6)),
+    ("table D, each line twice, half a word", D_TWICE, [1], refused(11)),
     ("no final state", table(1, [0], [], (0, 0, 1)), [1], refused(11)),
     ("255 codes", table(1, [0], [0], (0, 0, 1, 7)), [1] * 255, output(*[7] * 255)),
     ("256 codes", table(1, [0], [0], (0, 0, 1, 7)), [1] * 256, refused(9)),

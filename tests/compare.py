@@ -15,7 +15,6 @@ from workers import spread
 SEED = 20_240_101
 DAMAGED_FILES = 5_200
 DAMAGED_KINDS = ("random, small",) * 5 + ("random, middle", "branches", "periodic output", "coprime cycles", "ring", "full size, random")
-SHUFFLED = 4  # one table in so many is compared with its transitions in another order, too
 TRANSLATED = 10  # one damaged file in so many is given to the translating program, too
 MAX_DEFINED = 6  # states up to which the reference itself is compared with the definitions
 
@@ -147,18 +146,6 @@ def check_reference(findings, content, transducer, known, expected):
     findings.check_apart("reference itself", faults, content)
 
 
-def compare_shuffled(programs, findings, random, transducer, expected, translations):
-    """The same table with its lines in another order: the same verdict and u; if it is single, the same translations (word, what was said)."""
-    other = generate.shuffled(random, transducer)
-    content = table_file(other)
-    faults = faults_of_verdict(programs, findings, content, expected, other)
-    for word, said in [] if expected.split else translations:
-        again, broken = answer(parse_translation, programs.translate, content, word)
-        if broken or again != said:
-            faults += broken or [f"{as_codes(word)} gives {again}, and with the lines in the first order {said}"]
-    findings.check("lines in another order", faults, content)
-
-
 def compare_table(programs, findings, kind, index):
     """Verdict, u, witness and translations of one generated table."""
     random = randomness(kind, index)
@@ -170,10 +157,8 @@ def compare_table(programs, findings, kind, index):
     for title in ("all tables", f"tables, {kind}"):
         findings.count(title, "split" if expected.split else "single")
     findings.count("all tables by u", size_name(expected.useful))
-    words = generate.input_words(random, transducer)[:1 if index % 2 else 2]
-    translations = [(word, compare_translation(programs, findings, content, word)) for word in words]
-    if index % SHUFFLED == 0:
-        compare_shuffled(programs, findings, random, transducer, expected, translations)
+    for word in generate.input_words(random, transducer)[:1 if index % 2 else 2]:
+        compare_translation(programs, findings, content, word)
 
 
 def run_tables(findings):

@@ -1,10 +1,11 @@
-"""Seeded faults: the library with one function made wrong in C, which the comparisons of boundary.py and wordtest.py must find."""
+"""Seeded faults: the library with one function made wrong in C, which the comparisons of boundary.py, wordtest.py and alike.py must find."""
 
 import subprocess
 import tempfile
 from ctypes import c_uint8, c_uint16, c_uint64
 from pathlib import Path
 
+import alike
 import boundary
 import wordtest
 from examples import run_stack, stack_of_lists
@@ -18,7 +19,7 @@ GROUP = "library, seeded fault is found"
 TYPES = {c_uint8: "uint8_t", c_uint16: "uint16_t", c_uint64: "uint64_t"}
 KINDS = ("random, small", "most lines read nothing", "two copies, a code changed", "branches", "coprime cycles", "deterministic")
 TABLES, MIXED = 2, 10
-FORGETS = ROOT / "tests" / "forgets.c"  # a wrong search
+HELPERS = (ROOT / "tests" / "forgets.c", ROOT / "tests" / "repeats.c")  # a wrong search, and what is asked about repeats
 
 NO_CODE = "not_all_codes({0}, {0}_length)"
 # what is wrong, the function, what it does before and after the right one is called (r is what that returned)
@@ -77,6 +78,13 @@ FAULTS = (
     ("the second place of the answer is written", "accepts", "", "if (!r && answer_length > 1) answer[1] = 0;"),
     ("the output word is changed", "accepts", "", "if (!r && output_length) ((uint8_t *)output)[output_length - 1] ^= 1;"),
 )
+# functions that let a line count twice which stands in the file twice, or once only: the comparisons of tables that are alike must find them
+REPEATS = (
+    ("a repeat makes a useful pair more", "useful_pairs", "", "if (!r) answer[0] += repeats(file, file_length);"),
+    ("a repeat makes a state useless", "useful_states", "", "if (!r && repeats(file, file_length)) flags[0] = 0;"),
+    ("a repeat turns a yes into a no", "accepts", "", "if (!r && repeats(file, file_length)) answer[0] = 0;"),
+    ("a repeat is not written", "write", "", "if (!r) answer[0] = without_repeats(out, answer[0]);"),
+)
 # a function that keeps something while it runs: seen only where another thread is in it at the same time
 SHARES = ("memory that threads share", "verdict", "static volatile size_t kept; kept = file_length;", "if (!r && kept != file_length) answer[1]++;")
 # a function that copies what is lent: seen only by the stack that it takes
@@ -94,6 +102,8 @@ def source(name, before, after):
 #define YOTSELINA_NUMBER(r) ((r) & 0xffff)
 uint32_t yotselina_check(const uint8_t *file, size_t file_length);
 int forgets(const uint8_t *file, const uint8_t *input, size_t input_length, const uint8_t *output, size_t output_length);
+int repeats(const uint8_t *file, size_t length);
+size_t without_repeats(uint8_t *file, size_t length);
 static inline int not_all_codes(const uint8_t *word, size_t length)
 {{ for (size_t i = 0; i < length; i++) if (!word[i] || word[i] > 250) return 1; return 0; }}
 uint32_t right({parameters});
@@ -112,7 +122,7 @@ def wrong_parts(folder, archive, fault):
 def wrong_library(folder, archive, fault):
     """The shared object with the fault in it."""
     wrong, right = wrong_parts(folder, archive, fault)
-    link_shared(folder / "wrong.so", right, wrong, FORGETS)
+    link_shared(folder / "wrong.so", right, wrong, *HELPERS)
     return Library(folder / "wrong.so")
 
 
@@ -138,12 +148,21 @@ def compare_some(library, name):
     return found
 
 
+def compare_alike(library, found):
+    """A small share of the comparisons of tables that are alike."""
+    for kind in KINDS:
+        for index in range(TABLES):
+            alike.compare_calls(library, found, kind, index)
+
+
 def try_fault(_, findings, archive, fault):
     with tempfile.TemporaryDirectory() as folder:
         library = wrong_library(Path(folder), archive, fault)
         found = Findings()
         if fault == SHARES:
             boundary.compare_threads(library, found)
+        elif fault in REPEATS:
+            compare_alike(library, found)
         else:
             found = compare_some(library, fault[1])
     findings.check(GROUP, [] if found.failures else [f"not found: {fault[0]} ({fault[1]})"], b"")
@@ -158,4 +177,4 @@ def try_copies(_, findings, archive):
 
 def run(findings):
     archive = build()
-    spread(Library, [(try_fault, archive, fault) for fault in (*FAULTS, SHARES)] + [(try_copies, archive)], findings, batch=2)
+    spread(Library, [(try_fault, archive, fault) for fault in (*FAULTS, *REPEATS, SHARES)] + [(try_copies, archive)], findings, batch=2)

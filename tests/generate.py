@@ -40,9 +40,17 @@ def renamed(random, transducer):
                       tuple(sorted(names[s] for s in transducer.finals)), tuple(lines))
 
 
-def shuffled(random, transducer):
-    """The same transducer with its transitions in another order."""
-    return transducer._replace(transitions=tuple(random.sample(transducer.transitions, len(transducer.transitions))))
+def same_lines(random, transducer):
+    """A transducer that is alike: repeats are gone or kept, some lines are pasted again in random places, and the order is the same or another."""
+    lines = list(transducer.transitions)
+    if random.random() < 0.4:
+        lines = list(dict.fromkeys(lines))
+    for _ in range(random.choice((0, 1, 1, 2, 5, 40, MAX_TRANSITIONS))):
+        if lines and len(lines) < MAX_TRANSITIONS:
+            lines.insert(random.randint(0, len(lines)), random.choice(lines))
+    if random.random() < 0.5:
+        random.shuffle(lines)
+    return transducer._replace(transitions=tuple(lines))
 
 
 def reached(roots, edges):
@@ -248,13 +256,18 @@ def decorated(random, transducer):
     return Transducer(states, starts, finals, tuple(lines[:MAX_TRANSITIONS]))
 
 
+def useful_place(random, transducer):
+    """The number of a line on an accepting path where there is one, else of any; None if there are no lines."""
+    lines, useful = transducer.transitions, useful_states(transducer)
+    places = [i for i, line in enumerate(lines) if line.source in useful and line.target in useful] or range(len(lines))
+    return random.choice(places) if places else None
+
+
 def one_code_changed(random, transducer):
     """One output code replaced, added or taken away, on an accepting path where there is one."""
-    lines, useful = list(transducer.transitions), useful_states(transducer)
-    places = [i for i, line in enumerate(lines) if line.source in useful and line.target in useful] or list(range(len(lines)))
-    if not places:
+    lines, at = list(transducer.transitions), useful_place(random, transducer)
+    if at is None:
         return transducer
-    at = random.choice(places)
     output = list(lines[at].output)
     change = random.choice("rat")
     if change == "a" and len(output) < MAX_OUTPUTS or not output:
@@ -264,6 +277,19 @@ def one_code_changed(random, transducer):
     else:
         output[random.randrange(len(output))] = random.randint(1, MAX_CODE)
     lines[at] = lines[at]._replace(output=tuple(output))
+    return transducer._replace(transitions=tuple(lines))
+
+
+def one_line_changed(random, transducer):
+    """One line in which one thing is another: an output code, the input, or a state; often it is one that has been pasted a second time."""
+    if random.random() < 0.5:
+        return one_code_changed(random, transducer)
+    lines, at = list(transducer.transitions), useful_place(random, transducer)
+    if at is None:
+        return transducer
+    inputs = sorted({line.input for line in lines} | {0, random.randint(1, MAX_CODE)})
+    state = random.randrange(transducer.states)
+    lines[at] = lines[at]._replace(**random.choice(({"input": random.choice(inputs)}, {"source": state}, {"target": state})))
     return transducer._replace(transitions=tuple(lines))
 
 

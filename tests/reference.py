@@ -109,6 +109,11 @@ def read_seen(content):
     return read(content[:FILE_SEEN])
 
 
+def alike(one, other):
+    """Document 02, job 2: the same n, start and final states, and each line of either stands in the other, repeats not counted."""
+    return one._replace(transitions=set(one.transitions)) == other._replace(transitions=set(other.transitions))
+
+
 # --- useful pairs ----------------------------------------------------------------------------------------------------
 
 

@@ -128,7 +128,7 @@ beginning : (bytes out₀ : List ℕ) {out : List ℕ} {n : ℕ} → n ≡ lengt
 beginning bytes out₀ size e = rw (e, size) (put-there out₀ 0 bytes (omega arith))
 
 -- two files whose transducers are alike get the same answer where they are functional
-file-same : {f g input out₀ out out₀′ out′ : List ℕ} {q q′ : FileTranslation} → Taken f → Taken g → Alike (tableOf f) (tableOf g)
+pub file-same : {f g input out₀ out out₀′ out′ : List ℕ} {q q′ : FileTranslation} → Taken f → Taken g → Alike (tableOf f) (tableOf g)
     → Functional (tableOf f) → TranslatedInFull f input out₀ out q → TranslatedInFull g input out₀′ out′ q′ → SameAnswer out out′ q q′
 file-same {f} {g} {out₀ = out₀} {out} {out₀′} {out′} {q} {q′} taken taken′ alike functional h h′ =
     let a = h .translated .taken taken in

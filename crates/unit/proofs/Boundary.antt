@@ -22,8 +22,9 @@ use Rattle.answers.specs.Answers.{refusalCode, flagOf, numbersOf, translateAnsw
 use Rattle.unit.specs.Calls.{VerdictGiven, translateCode, TranslationGiven, AnswerIn, AcceptsGiven}
 use Rattle.unit.specs.Calls.{Flagged, StatesGiven, PairsGiven, DifferenceGiven, FileGiven}
 use Rattle.unit.specs.Laws.{SameVerdict, Boundary}
-use Rattle.unit.proofs.Codes.{this-one, no-room, taken-code, code-taken, front}
+use Rattle.unit.proofs.Codes.{this-one, no-room, taken-code, code-taken, front, front-two}
 use Rattle.unit.proofs.WordCalls.{accepts-agreement}
+use Rattle.unit.proofs.AlikeCalls.{alike-verdict, alike-translation}
 
 number-told : (number at : ℕ) → number < 65536 → refusalCode number at % 65536 ≡ number
 unfolding refusalCode
@@ -48,11 +49,7 @@ same-left {r₁} same done one other =
 
 -- ---- the verdict
 
--- the first numbers of the answer list
-front-two : (a : List ℕ) (j : Judgement) → take 2 (put a 0 (numbersOf j)) ≡ flagOf (j .split) ∷ j .useful ∷ []
-unfolding put numbersOf
-front-two a j = refl
-
+-- the first number of the answer list
 front-one : (a : List ℕ) (j : Judgement) → getD (put a 0 (numbersOf j)) 0 0 ≡ flagOf (j .split)
 unfolding numbersOf
 front-one a j = front a _ _
@@ -187,6 +184,8 @@ boundary =
       taken-exactly = λ f. (code-taken f, taken-code f);
       verdict = verdict-determined;
       translation = translation-determined;
+      alike-verdict = alike-verdict;
+      alike-translation = alike-translation;
       accepts = accepts-determined;
       agreement = accepts-agreement;
       states = states-determined;

@@ -1,4 +1,4 @@
--- What a call returns: the first of its refusals, or 0; and the first number that it leaves in the answer list. Assumes nothing.
+-- What a call returns: the first of its refusals, or 0; and the first numbers that it leaves in the answer list. Assumes nothing.
 use mathlib.Core.Path.{_≡_, refl, sym, ap, _∙_}
 use mathlib.Core.List.{List, [], _∷_}
 use mathlib.Core.Logic.{_≢_}
@@ -6,14 +6,15 @@ use Prim.Native.Nat.{ℕ, _≤_, _<_}
 use native.Mathlib.Decide.{ℕ-discrete}
 use native.Mathlib.Omega.{arith}
 use borrow.Author.Tests.{eq-eqb, ne-eqb, lt-ltb, le-ltb}
-use lib.ListN.{length, getD}
+use lib.ListN.{length, getD, take}
 use Rattle.buffers.specs.Put.{put}
 use Rattle.tablereader.specs.Outcome as outcome
 use Rattle.tablereader.specs.Reader.{readOf}
 use Rattle.tablereader.specs.declared.Reading.{Reading}
 use Rattle.tablereader.proofs.Outcomes.{taken-number}
 use Rattle.engine.specs.Engine.{Taken}
-use Rattle.answers.specs.Answers.{refusalCode, fileCode, roomFault}
+use Rattle.engine.specs.declared.Judgement.{Judgement}
+use Rattle.answers.specs.Answers.{refusalCode, fileCode, roomFault, flagOf, numbersOf}
 use Rattle.unit.specs.Calls.{firstOf}
 
 -- ---- the first refusal
@@ -91,3 +92,8 @@ code-read f reads e = e ∙ ap (λ (x : Reading). refusalCode (outcome.numberOf 
 pub front : (a : List ℕ) (k : ℕ) (ks : List ℕ) → getD (put a 0 (k ∷ ks)) 0 0 ≡ k
 unfolding put
 front a k ks = refl
+
+-- the first two of a judgement
+pub front-two : (a : List ℕ) (j : Judgement) → take 2 (put a 0 (numbersOf j)) ≡ flagOf (j .split) ∷ j .useful ∷ []
+unfolding put numbersOf
+front-two a j = refl

@@ -4,4 +4,5 @@ mod CallLaws
 mod WordCalls
 mod UsefulCalls
 mod FileCalls
+mod AlikeCalls
 pub mod Boundary

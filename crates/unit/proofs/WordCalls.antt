@@ -88,7 +88,7 @@ module _ {f input out out′ b b′ : List ℕ} {s : ℕ} (long : translateAnswe
     (by : AnswerBy (tableOf f) input out out′ (k .translation))
   where
     -- what it returns is the translator's refusal
-    told : s ≡ refusalCode (translation.numberOf (by .translation)) 0
+    pub told : s ≡ refusalCode (translation.numberOf (by .translation)) 0
     unfolding translateCode
     told =
         k .code ∙ sym (none-then _ (room _ _ _ long) (only-one refl))

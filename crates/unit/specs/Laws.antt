@@ -1,12 +1,13 @@
 -- What holds of any results that meet the contracts of specs/Calls.antt: a refusal's number and record can be told from what is returned; what is
--- returned and left is determined, but for what document 01 leaves open; and the word test agrees with the translation. `boundary` of
--- proofs/Boundary.antt proves it.
+-- returned and left is determined, but for what document 01 leaves open; files whose tables are alike are answered alike; and the word test agrees with
+-- the translation. `boundary` of proofs/Boundary.antt proves it.
 use mathlib.Core.Path.{_≡_}
 use mathlib.Core.List.{List}
 use mathlib.Core.Logic.{_↔_}
 use Prim.Native.Nat.{ℕ, _≤_, _<_, _/_, _%_}
 use lib.ListN.{length, getD, take}
 use Rattle.transducer.specs.Paths.{Functional}
+use Rattle.transducer.specs.Alike.{Alike}
 use Rattle.wordsearch.specs.Limits.{mostWritten}
 use Rattle.witness.specs.Showing.{Buffers}
 use Rattle.engine.specs.Engine.{Taken, tableOf}
@@ -27,6 +28,12 @@ pub record OutputGiven (output out′ a′ : List ℕ) (r : ℕ) : Type 0 where
   pub size : getD a′ 0 0 ≡ length output
   pub codes : take (length output) out′ ≡ output
 
+-- two translations are the same refusal or the same output: its length in the answer list, its codes at the front of the buffer
+pub record SameTranslation (out₁ out₂ a₁ a₂ : List ℕ) (r₁ r₂ : ℕ) : Type 0 where
+  pub returned : r₁ ≡ r₂
+  pub size : r₁ ≡ 0 → getD a₁ 0 0 ≡ getD a₂ 0 0
+  pub codes : r₁ ≡ 0 → take (getD a₁ 0 0) out₁ ≡ take (getD a₂ 0 0) out₂
+
 -- the laws of the exported functions
 pub record Boundary : Type 0 where
   -- the low 16 bits of a refusal are its number, the others the record's
@@ -39,6 +46,13 @@ pub record Boundary : Type 0 where
   -- on a split table the path that is followed is free
   pub translation : {f input out out₁ out₂ a a₁ a₂ : List ℕ} {r₁ r₂ : ℕ} → (Taken f → Functional (tableOf f))
       → TranslationGiven f input out out₁ a a₁ r₁ → TranslationGiven f input out out₂ a a₂ r₂ → (r₁ ≡ r₂) × (out₁ ≡ out₂) × (a₁ ≡ a₂)
+  -- demand 3, the last two sentences: two files whose tables are alike. Their verdicts, where neither call is refused, have the same first two numbers
+  pub alike-verdict : {f g a a′ c c′ : List ℕ} {b b′ d d′ : Buffers} {r s : ℕ} → Alike (tableOf f) (tableOf g)
+      → VerdictGiven f b b′ a a′ r → r ≡ 0 → VerdictGiven g d d′ c c′ s → s ≡ 0 → take 2 a′ ≡ take 2 c′
+  -- and where they are single, lent the full 65,528 places, every word gets the same refusal or the same output
+  pub alike-translation : {f g input out₁ out₁′ a a′ out₂ out₂′ c c′ : List ℕ} {r s : ℕ} → Taken f → Taken g → Alike (tableOf f) (tableOf g)
+      → Functional (tableOf f) → mostWritten ≤ length out₁ → mostWritten ≤ length out₂ → translateAnswer ≤ length a → translateAnswer ≤ length c
+      → TranslationGiven f input out₁ out₁′ a a′ r → TranslationGiven g input out₂ out₂′ c c′ s → SameTranslation out₁′ out₂′ a′ c′ r s
   pub accepts : {f input output a a₁ a₂ : List ℕ} {r₁ r₂ : ℕ} → AcceptsGiven f input output a a₁ r₁ → AcceptsGiven f input output a a₂ r₂
       → (r₁ ≡ r₂) × (a₁ ≡ a₂)
   -- document 02, job 1: for a single table, yes agrees with what the translator gives when lent the full 65,528 places; for a file and words that the

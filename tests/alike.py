@@ -1,0 +1,116 @@
+"""Pairs of files whose tables are alike (document 02, job 2: the same lines, repeats and order not counted), through both programs and the library;
+and pairs that differ in one line, whose verdicts the reference tells apart."""
+
+import generate
+import reference
+from boundary import as_note, check
+from compare import answer, as_codes, compare_translation, expected_verdict, faults_of_verdict, randomness
+from library import Library, build
+from listing import Refusal, parse_translation
+from owed import table_of
+from programs import Programs
+from settings import share
+from transducer import table_file
+from workers import spread
+
+GROUP = "alike"
+APART = "one line differs"
+PAIRS = 4  # one table of a kind in so many has a pair through the programs, one through the library, and one that differs in one line
+TRIES = 30  # tables and changes that are tried until the reference tells the verdicts apart
+
+
+# --- pairs that are alike --------------------------------------------------------------------------------------------
+
+
+def pair_of(findings, random, kind):
+    """A table, one that is alike, and the verdict that the reference has for both."""
+    one = generate.KINDS[kind][1](random)[0]
+    other = generate.same_lines(random, one)
+    expected, again = (expected_verdict(table_file(transducer))[0] for transducer in (one, other))
+    faults = ["the tables are not alike"] * (not reference.alike(one, other)) + ["another verdict for the second"] * (expected != again)
+    findings.check_apart("reference itself, alike", faults, table_file(one), f"the second table:\n{table_file(other).decode()}")
+    more = len(other.transitions) - len(one.transitions)
+    findings.count("pairs that are alike, lines of the second", "as many" if more == 0 else "more" if more > 0 else "fewer")
+    return one, other, expected
+
+
+def words_for(random, transducer):
+    """Words that are read where there are any, nearly read, not read, too long, or with a byte that is no code."""
+    return [*generate.input_words(random, transducer), generate.any_word(random, transducer, 5), generate.broken_word(random, transducer)]
+
+
+def same_said(one, other, split):
+    """Whether two answers to a word are the same refusal or the same output; on split tables any two outputs will do."""
+    return one == other or split and not isinstance(one, Refusal) and not isinstance(other, Refusal)
+
+
+def compare_programs(programs, findings, kind, index):
+    """Verdict and u of both files; what the translating program says of some words with the one and with the other."""
+    random = randomness(GROUP, kind, index)
+    one, other, expected = pair_of(findings, random, kind)
+    for transducer in (one, other):
+        content = table_file(transducer)
+        findings.check(f"{GROUP}, verdict and u", faults_of_verdict(programs, findings, content, expected, transducer), content)
+    for word in words_for(random, one):
+        said = compare_translation(programs, findings, table_file(one), word, f"{GROUP}, translation")
+        again, faults = answer(parse_translation, programs.translate, table_file(other), word)
+        if not faults and not same_said(said, again, expected.split):
+            faults = [f"{again}, and with the first table {said}"]
+        findings.check(f"{GROUP}, the same translation or refusal", faults, table_file(other), as_codes(word))
+
+
+# --- the same through the library ------------------------------------------------------------------------------------
+
+
+def compare_calls(library, findings, kind, index):
+    """Useful states, useful pairs and word tests of both files are the same; and each is written with all its repeats."""
+    random = randomness(GROUP, "library", kind, index)
+    one, other, _ = pair_of(findings, random, kind)
+    tests = generate.word_tests(random, one) + [generate.broken_words(random, one)]
+    for name, *words in (("useful_states",), ("useful_pairs",), *(("accepts", *test) for test in tests)):
+        calls = [library.call(random, name, table_file(transducer), *words) for transducer in (one, other)]
+        said = [(call.returned, [call.lent[lent].items(call.sizes[lent]) for lent in call.lent if not call.returned]) for call in calls]
+        faults = [] if said[0] == said[1] else [f"{name}: {said[1]}, and with the first table {said[0]}"]
+        findings.check(f"library, {GROUP}, the same answer", faults, table_file(other), as_note(words))
+    for transducer in (one, other):
+        content = table_file(transducer)
+        check(findings, f"{GROUP}, written with its repeats", table_of(content), library.call(random, "write", content))
+
+
+# --- pairs that differ in one line -----------------------------------------------------------------------------------
+
+
+def told_apart(random, kind):
+    """Two tables that differ in one line, with their verdicts by the reference, of which one is single and one split; None if none is found. Often lines
+    have been pasted again before, so that only one of several copies is changed."""
+    for _ in range(TRIES):
+        one = generate.KINDS[kind][1](random)[0]
+        one = generate.same_lines(random, one) if random.random() < 0.5 else one
+        other = generate.one_line_changed(random, one)
+        verdicts = [expected_verdict(table_file(transducer))[0] for transducer in (one, other)]
+        if verdicts[0].split != verdicts[1].split:
+            return one, other, verdicts
+    return None
+
+
+def compare_apart(programs, findings, kind, index):
+    """Each of two tables that differ in one line gets its own verdict and u."""
+    random = randomness(APART, kind, index)
+    pair = told_apart(random, kind)
+    findings.count(f"{APART}, pairs", "told apart" if pair else "none found")
+    if pair is None:
+        return
+    one, other, verdicts = pair
+    changed = [a != b for a, b in zip(one.transitions, other.transitions, strict=True)].count(True)
+    faults = [] if changed == 1 and not reference.alike(one, other) else [f"{changed} lines differ, or the tables are alike"]
+    findings.check_apart(f"reference itself, {APART}", faults, table_file(one))
+    for transducer, expected in zip((one, other), verdicts):
+        content = table_file(transducer)
+        findings.check(f"{APART}, verdict and u", faults_of_verdict(programs, findings, content, expected, transducer), content)
+
+
+def run(findings):
+    build()
+    tables = [(kind, index) for kind, (count, _) in generate.KINDS.items() for index in range(share(-(-count // PAIRS)))]
+    spread(Programs, [(compare, *table) for compare in (compare_programs, compare_apart) for table in tables], findings)
+    spread(Library, [(compare_calls, *table) for table in tables], findings)
