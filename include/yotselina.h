@@ -136,8 +136,7 @@ uint32_t yotselina_check(const uint8_t *file, size_t file_length);
  * `path_b` the numbers of the two paths' lines (from 0 in the order of the file), `output_x` and `output_y` what they write. Word and paths
  * have at most 2u - 1 items; path_a stands before path_b in dictionary order, a list before its own extensions.
  * Single: there is no such word, however long. Only `answer` is written.
- * Files whose tables are alike (the same n, start and final states, and each line of either stands in the other, in any order and any number of
- * times) get the same [0] and [1].
+ * Files whose tables are alike (docs/MANUAL.md, the table file: the same lines, in any order and each any number of times) get the same [0] and [1].
  *
  * Refusals: 100; 1 to 6, 12 with the record; 7 if any of the five lists is below its size, whatever the verdict would be.
  * Stack: 131,072 bytes.
@@ -161,7 +160,7 @@ uint32_t yotselina_verdict(const uint8_t *file, size_t file_length,
  *
  * Writes what an accepting path that reads the word writes. If the table is single, all such paths write the same; if it is split, which path
  * is not settled, and 7 is then given only if some output of the word does not fit. Two single tables that are alike give the same output or the
- * same refusal, with YOTSELINA_OUTPUT places each.
+ * same refusal for every word, with YOTSELINA_OUTPUT places each.
  *
  * Refusals: 100; 1 to 6, 12 with the record; 9, 10, 11; 7 if the output does not fit, never with YOTSELINA_OUTPUT places.
  * Stack: 163,840 bytes.

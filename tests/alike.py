@@ -4,9 +4,8 @@ and pairs that differ in one line, whose verdicts the reference tells apart."""
 import generate
 import reference
 from boundary import as_note, check
-from compare import answer, as_codes, compare_translation, expected_verdict, faults_of_verdict, randomness
+from compare import as_codes, compare_translation, expected_verdict, faults_of_verdict, randomness
 from library import Library, build
-from listing import Refusal, parse_translation
 from owed import table_of
 from programs import Programs
 from settings import share
@@ -14,8 +13,9 @@ from transducer import table_file
 from workers import spread
 
 GROUP = "alike"
+LINES = "pairs that are alike, lines of the second"
 APART = "one line differs"
-PAIRS = 4  # one table of a kind in so many has a pair through the programs, one through the library, and one that differs in one line
+SOME_TABLES = 4  # for one table of a kind in so many: a pair through the programs, one through the library, one that differs in one line
 TRIES = 30  # tables and changes that are tried until the reference tells the verdicts apart
 
 
@@ -30,7 +30,7 @@ def pair_of(findings, random, kind):
     faults = ["the tables are not alike"] * (not reference.alike(one, other)) + ["another verdict for the second"] * (expected != again)
     findings.check_apart("reference itself, alike", faults, table_file(one), f"the second table:\n{table_file(other).decode()}")
     more = len(other.transitions) - len(one.transitions)
-    findings.count("pairs that are alike, lines of the second", "as many" if more == 0 else "more" if more > 0 else "fewer")
+    findings.count(LINES, "more" if more > 0 else "fewer" if more < 0 else "the same" if one == other else "in another order")
     return one, other, expected
 
 
@@ -39,38 +39,48 @@ def words_for(random, transducer):
     return [*generate.input_words(random, transducer), generate.any_word(random, transducer, 5), generate.broken_word(random, transducer)]
 
 
-def same_said(one, other, split):
-    """Whether two answers to a word are the same refusal or the same output; on split tables any two outputs will do."""
-    return one == other or split and not isinstance(one, Refusal) and not isinstance(other, Refusal)
-
-
 def compare_programs(programs, findings, kind, index):
-    """Verdict and u of both files; what the translating program says of some words with the one and with the other."""
+    """Verdict and u of both files; some words with the one and with the other, which get the same answer if the tables are single."""
     random = randomness(GROUP, kind, index)
     one, other, expected = pair_of(findings, random, kind)
     for transducer in (one, other):
         content = table_file(transducer)
         findings.check(f"{GROUP}, verdict and u", faults_of_verdict(programs, findings, content, expected, transducer), content)
     for word in words_for(random, one):
-        said = compare_translation(programs, findings, table_file(one), word, f"{GROUP}, translation")
-        again, faults = answer(parse_translation, programs.translate, table_file(other), word)
-        if not faults and not same_said(said, again, expected.split):
-            faults = [f"{again}, and with the first table {said}"]
-        findings.check(f"{GROUP}, the same translation or refusal", faults, table_file(other), as_codes(word))
+        said, again = (compare_translation(programs, findings, table_file(transducer), word, f"{GROUP}, translation") for transducer in (one, other))
+        if not expected.split:
+            faults = [] if said == again else [f"{again}, and with the first table {said}"]
+            findings.check(f"{GROUP}, the same translation or refusal", faults, table_file(other), as_codes(word))
 
 
 # --- the same through the library ------------------------------------------------------------------------------------
 
 
+def said_by(call, split):
+    """What must be the same of two tables that are alike: the refusal, or what is answered. Of a verdict that is whether the table is split, and u; of a
+    translation by a split table, that there is an output."""
+    if call.returned:
+        return call.refusal()
+    lists = {lent: memory.items(call.sizes[lent]) for lent, memory in call.lent.items()}
+    if call.name == "verdict":
+        return lists["answer"][:2]
+    if call.name == "translate":
+        return "an output" if split else lists["output"][:lists["answer"][0]]
+    return lists
+
+
 def compare_calls(library, findings, kind, index):
-    """Useful states, useful pairs and word tests of both files are the same; and each is written with all its repeats."""
+    """Every call that reads a table, on both files: what it owes by the reference, and the same of both; and each file is written with its repeats."""
     random = randomness(GROUP, "library", kind, index)
-    one, other, _ = pair_of(findings, random, kind)
+    one, other, expected = pair_of(findings, random, kind)
     tests = generate.word_tests(random, one) + [generate.broken_words(random, one)]
-    for name, *words in (("useful_states",), ("useful_pairs",), *(("accepts", *test) for test in tests)):
+    for name, *words in (("verdict",), ("useful_states",), ("useful_pairs",), *(("translate", word) for word in words_for(random, one)),
+                         *(("accepts", *test) for test in tests)):
         calls = [library.call(random, name, table_file(transducer), *words) for transducer in (one, other)]
-        said = [(call.returned, [call.lent[lent].items(call.sizes[lent]) for lent in call.lent if not call.returned]) for call in calls]
-        faults = [] if said[0] == said[1] else [f"{name}: {said[1]}, and with the first table {said[0]}"]
+        for call in calls:
+            check(findings, f"{GROUP}, {name}", table_of(call.inputs[0]), call, as_note(words))
+        said, again = (said_by(call, expected.split) for call in calls)
+        faults = [] if said == again else [f"{name}: {again}, and with the first table {said}"]
         findings.check(f"library, {GROUP}, the same answer", faults, table_file(other), as_note(words))
     for transducer in (one, other):
         content = table_file(transducer)
@@ -111,6 +121,8 @@ def compare_apart(programs, findings, kind, index):
 
 def run(findings):
     build()
-    tables = [(kind, index) for kind, (count, _) in generate.KINDS.items() for index in range(share(-(-count // PAIRS)))]
+    tables = [(kind, index) for kind, (count, _) in generate.KINDS.items() for index in range(share(-(-count // SOME_TABLES)))]
     spread(Programs, [(compare, *table) for compare in (compare_programs, compare_apart) for table in tables], findings)
     spread(Library, [(compare_calls, *table) for table in tables], findings)
+    for title, what in ((LINES, "more"), (LINES, "fewer"), (LINES, "in another order"), (f"{APART}, pairs", "told apart")):
+        findings.check_apart("pairs of every kind", [] if findings.tally[title, what] else [f"{title}: none {what}"], b"")

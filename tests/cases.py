@@ -1,4 +1,4 @@
-"""Named cases: those of document 01, the limits of the file and of words, and the plausible and false ideas that document 01 warns of."""
+"""Named cases: those of document 01, the limits of the file and of words, repeated lines, and the plausible and false ideas that document 01 warns of."""
 
 from compare import answer, as_codes, compare_translation, expected_verdict, faults_of_verdict
 from listing import MAX_TRANSLATION, Refusal, parse_translation, show
@@ -45,7 +45,7 @@ def output(*codes):
     return show(("X", (len(codes), *codes)))
 
 
-# --- document 01's small tables, and the ideas it calls plausible and false -------------------------------------------
+# --- document 01's small tables, the ideas it calls plausible and false, and repeated lines ---------------------------
 
 # name, table, what the verdict program prints byte for byte
 VERDICTS = (

@@ -78,8 +78,11 @@ FAULTS = (
     ("the second place of the answer is written", "accepts", "", "if (!r && answer_length > 1) answer[1] = 0;"),
     ("the output word is changed", "accepts", "", "if (!r && output_length) ((uint8_t *)output)[output_length - 1] ^= 1;"),
 )
-# functions that let a line count twice which stands in the file twice, or once only: the comparisons of tables that are alike must find them
+# functions that answer otherwise where a line stands in the file twice: the comparisons of alike.py must find them
 REPEATS = (
+    ("a repeat makes a table split", "verdict", "", "if (!r && repeats(file, file_length)) answer[0] = 1;"),
+    ("a repeat counts in u", "verdict", "", "if (!r) answer[1] += repeats(file, file_length);"),
+    ("a word is not read where a line is repeated", "translate", "", "if (!r && repeats(file, file_length)) r = 11;"),
     ("a repeat makes a useful pair more", "useful_pairs", "", "if (!r) answer[0] += repeats(file, file_length);"),
     ("a repeat makes a state useless", "useful_states", "", "if (!r && repeats(file, file_length)) flags[0] = 0;"),
     ("a repeat turns a yes into a no", "accepts", "", "if (!r && repeats(file, file_length)) answer[0] = 0;"),

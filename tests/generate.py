@@ -45,10 +45,11 @@ def same_lines(random, transducer):
     lines = list(transducer.transitions)
     if random.random() < 0.4:
         lines = list(dict.fromkeys(lines))
-    for _ in range(random.choice((0, 1, 1, 2, 5, 40, MAX_TRANSITIONS))):
+    pasted = random.choice((0, 1, 1, 2, 5, 40, MAX_TRANSITIONS))
+    for _ in range(pasted):
         if lines and len(lines) < MAX_TRANSITIONS:
             lines.insert(random.randint(0, len(lines)), random.choice(lines))
-    if random.random() < 0.5:
+    if not pasted or random.random() < 0.5:
         random.shuffle(lines)
     return transducer._replace(transitions=tuple(lines))
 
@@ -281,7 +282,7 @@ def one_code_changed(random, transducer):
 
 
 def one_line_changed(random, transducer):
-    """One line in which one thing is another: an output code, the input, or a state; often it is one that has been pasted a second time."""
+    """One line in which one thing is another: an output code, the input, or a state."""
     if random.random() < 0.5:
         return one_code_changed(random, transducer)
     lines, at = list(transducer.transitions), useful_place(random, transducer)

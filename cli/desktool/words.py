@@ -111,7 +111,7 @@ def split(table, useful, witness, difference, every):
     said += ["", *textwrap.wrap(where_paths_part(table, witness.path_a, witness.path_b), WIDTH),
              *textwrap.wrap(where_outputs_part(table, witness, difference), WIDTH), ""]
     said += lines_of_paths(table, witness)
-    return said + ["", "Make both paths write the same, or take a line of one of them out; then ask again:",
+    return said + ["", "Make both paths write the same, or take a line of one of them out, with its repeats; then ask again:",
                    "a table may be split in more than one place, and each verdict shows one."]
 
 

@@ -1,5 +1,5 @@
 -- Laws of sets of pairs and of the answer `UsefulPairsOf`: what a search that has found exactly the useful pairs answers; that the contract
--- determines the answer; that there are at most `mostPairs` useful pairs; that transducers that are equal up to order have the same answer.
+-- determines the answer; that there are at most `mostPairs` useful pairs; that transducers that are alike have the same answer.
 -- Assumes nothing.
 use mathlib.Core.Path.{_≡_, refl, sym, ap, _∙_}
 use mathlib.Core.Bool.{Bool, true, false, _&&_}
@@ -149,7 +149,7 @@ pub none-refused : {t : Transducer} {r : UsefulPairs} → UsefulPairsOf t r → 
 unfolding noPairs
 none-refused a invalid = a .counted ∙ ap (λ s. countTrue (s .member)) (a .refused invalid) ∙ count-none mostPairs
 
--- transducers that keep the rules and are equal up to order have the same answer
+-- transducers that keep the rules and are alike have the same answer
 pub alike-useful-pairs : {t t′ : Transducer} {r r′ : UsefulPairs} → Alike t t′ → acceptedOf t ≡ true → acceptedOf t′ ≡ true
     → UsefulPairsOf t r → UsefulPairsOf t′ r′ → r ≡ r′
 alike-useful-pairs alike valid valid′ a a′ =

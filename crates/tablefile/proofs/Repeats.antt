@@ -3,10 +3,9 @@ use mathlib.Core.Path.{_≡_, sym, ap, _∙_}
 use mathlib.Core.List.{List, [], _∷_, _++_, flatMap, append-assoc, append-nil}
 use Prim.Native.Nat.{ℕ}
 use native.Mathlib.Omega.{arith}
-use lib.ListN.{length, drop, length-append}
+use lib.ListN.{length, length-append}
 use lib.Seq.{drop-at}
-use Rattle.records.specs.Field.{columns}
-use Rattle.records.specs.Letters.{letterT, letterS, letterF}
+use Rattle.records.specs.Letters.{letterS, letterF}
 use Rattle.records.proofs.RecordBytes.{length-record}
 use Rattle.transducer.specs.Transition.{at}
 use Rattle.transducer.specs.Lines.{linesOf, transducerOf, appended}
@@ -15,7 +14,7 @@ use Rattle.transducer.specs.declared.Transducer.{Transducer}
 use Rattle.transducer.proofs.AcceptedLaws.{accepted-valid, valid-accepted}
 use Rattle.transducer.proofs.LineLaws.{appended-lines, appended-valid, appended-shaped}
 use Rattle.transducer.proofs.AlikeLaws.{pasted-alike}
-use Rattle.tablewriter.specs.File.{statesOf, sizeOf, stateBytes, transitionBytes, transitionBytesBelow, headerBytes, writeOf}
+use Rattle.tablewriter.specs.File.{statesOf, stateBytes, transitionBytes, transitionBytesBelow, headerBytes, writeOf}
 use Rattle.tablefile.specs.Repeats.{RepeatsKept}
 use Rattle.tablefile.proofs.ReadWritten.{read-written}
 

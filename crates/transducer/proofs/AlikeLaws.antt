@@ -3,12 +3,14 @@
 -- has stands in the other. Assumes nothing.
 use mathlib.Core.Path.{_≡_, refl, sym, _∙_}
 use mathlib.Core.List.{List, [], _∷_, _++_, List·Memᴰ·head, List·Memᴰ·tail, List·Memᴰ·cases-cons, Memᴰ·cast, Memᴰ·append-left, Memᴰ·append-right}
+use mathlib.Core.List.{List·Permᴰ, List·Permᴰ·nil, List·Permᴰ·cons, List·Permᴰ·swap, List·Permᴰ·trans, Permᴰ·symm}
 use mathlib.Core.Logic.{_≢_, _↔_, ⊎-elim}
 use Prim.Native.Nat.{ℕ, zero, suc, _<_}
 use native.Mathlib.Decide.{ℕ-discrete}
 use native.Mathlib.Omega.{arith}
 use lib.ListN.{length, getD, set, length-set}
 use lib.Seq.{getD-set-same, getD-set-other}
+use Rattle.transducer.specs.StateSet.{has}
 use Rattle.transducer.specs.Transition.{at, outside}
 use Rattle.transducer.specs.Lines.{linesOf, transducerOf, appended, Among, AllAmong}
 use Rattle.transducer.specs.Paths.{Functional, Equivalent}
@@ -52,6 +54,23 @@ lines-alike t lines there back =
       there = λ v m. rw same (there v m);
       back = λ v m. back v (rw same at m);
     }
+
+-- as many of each line, that is, the same lines in some order: document 01's definition of alike, which says more
+permuted-among : {lines lines′ : List Transition} → List·Permᴰ lines lines′ → AllAmong lines lines′
+permuted-among List·Permᴰ·nil v m = m
+permuted-among (List·Permᴰ·cons e p) v m =
+    ⊎-elim (λ k. List·Memᴰ·head (k ∙ e)) (λ k. List·Memᴰ·tail (permuted-among p v k)) (List·Memᴰ·cases-cons m)
+permuted-among (List·Permᴰ·swap e i) v m =
+    ⊎-elim
+    (λ k. List·Memᴰ·tail (List·Memᴰ·head (k ∙ e)))
+    (λ k. ⊎-elim (λ j. List·Memᴰ·head (j ∙ i)) (λ j. List·Memᴰ·tail (List·Memᴰ·tail j)) (List·Memᴰ·cases-cons k))
+    (List·Memᴰ·cases-cons m)
+permuted-among (List·Permᴰ·trans p q) v m = permuted-among q v (permuted-among p v m)
+
+pub permuted-alike : {t t′ : Transducer} → t .states ≡ t′ .states → ((q : ℕ) → has (t .starts) q ≡ has (t′ .starts) q)
+    → ((q : ℕ) → has (t .finals) q ≡ has (t′ .finals) q) → List·Permᴰ (linesOf t) (linesOf t′) → Alike t t′
+permuted-alike states starts finals p =
+    record { states = states; starts = starts; finals = finals; there = permuted-among p; back = permuted-among (Permᴰ·symm p) }
 
 -- t with one line more behind the last, exactly where that line stands in t already
 pub appended-alike : (t : Transducer) (v : Transition) → Alike t (appended t v) ↔ Among v (linesOf t)

@@ -1,5 +1,7 @@
 -- Tables with the same lines (document 02, job 2: two tables are alike). How often a line stands in a table does not count, nor its place: document
--- 000, definition 3.5, has the transitions as a set.
+-- 000, definition 3.5, has the transitions as a set. Laws, in proofs/AlikeLaws.antt: to be alike is an equivalence (`alike-self`, `alike-sym`,
+-- `alike-trans`); a table with two lines exchanged is alike (`exchanged-alike`), and one with a line more behind the last exactly where that line stood
+-- there already (`appended-alike`).
 use mathlib.Core.Path.{_≡_}
 use Prim.Native.Nat.{ℕ}
 use lib.ListN.{set}
@@ -17,7 +19,6 @@ pub record Alike (t t′ : Transducer) : Type 0 where
   pub there : AllAmong (linesOf t) (linesOf t′)
   pub back : AllAmong (linesOf t′) (linesOf t)
 
--- t with lines l and m exchanged: it is alike to t (`exchanged-alike` of proofs/AlikeLaws.antt). With a line behind its last, t is alike to itself exactly
--- where that line stands in it already (`appended-alike`). To be alike is an equivalence (`alike-self`, `alike-sym`, `alike-trans`).
+-- t with lines l and m exchanged
 abbrev pub exchanged : Transducer → ℕ → ℕ → Transducer
 exchanged t l m = transducerOf (t .states) (t .starts) (t .finals) (set (set (linesOf t) l (at t m)) m (at t l))

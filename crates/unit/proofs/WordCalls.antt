@@ -83,6 +83,11 @@ answer-tested : {f input output a a′ : List ℕ} (h : AnswerIn f input output 
     → Tested (tableOf f) input output (said (h .yes))
 answer-tested h none = record { number = said-number (h .yes) ∙ sym none; answer = λ _. rw (said-yes (h .yes)) (h .exactly) }
 
+-- the length in the answer list of a translation for C
+pub length-given : {f input out out′ b b′ : List ℕ} {s : ℕ} (k : TranslationGiven f input out out′ b b′ s) → s ≡ 0
+    → getD b′ 0 0 ≡ k .translation .length
+length-given {b = b} k z = ap (λ l. getD l 0 0) (k .done z) ∙ front b _ []
+
 -- a translation by a file that is taken, for C: it gives an output exactly where the translator does
 module _ {f input out out′ b b′ : List ℕ} {s : ℕ} (long : translateAnswer ≤ length b) (k : TranslationGiven f input out out′ b b′ s)
     (by : AnswerBy (tableOf f) input out out′ (k .translation))
@@ -96,7 +101,7 @@ module _ {f input out out′ b b′ : List ℕ} {s : ℕ} (long : translateAnswe
 
     -- the length in the answer list is the translator's
     counted : s ≡ 0 → getD b′ 0 0 ≡ translation.lengthOf (by .translation)
-    counted z = ap (λ l. getD l 0 0) (k .done z) ∙ front b _ [] ∙ ap (λ (q : FileTranslation). q .length) (by .answer)
+    counted z = length-given k z ∙ ap (λ (q : FileTranslation). q .length) (by .answer)
 
     output-exactly : {output : List ℕ} → Gives output out′ (by .translation) ↔ OutputGiven output out′ b′ s
     output-exactly = (
