@@ -39,6 +39,10 @@ alike-trans h k =
       back = λ v m. h .back v (k .back v m);
     }
 
+-- what one of two alike transducers has stands in the other
+pub alike-within : {t t′ : Transducer} → Alike t t′ → Within t t′
+alike-within h = record { starts = λ q k. sym (h .starts q) ∙ k; finals = λ q k. sym (h .finals q) ∙ k; transitions = h .there }
+
 -- ---- what is alike
 
 -- t with any lines that are the same but for repeats and order
@@ -126,10 +130,6 @@ module _ (t : Transducer) (l m : ℕ) (hl : l < t .count) (hm : m < t .count) wh
       (set-among once m (at-among t l hl) (set-among (linesOf t) l (at-among t m hm) (λ v k. k)))
 
 -- ---- what alike transducers have in common
-
--- what one of them has stands in the other
-pub alike-within : {t t′ : Transducer} → Alike t t′ → Within t t′
-alike-within h = record { starts = λ q k. sym (h .starts q) ∙ k; finals = λ q k. sym (h .finals q) ∙ k; transitions = h .there }
 
 -- the relation, the useful states and pairs, and whether they are functional
 module _ {t t′ : Transducer} (h : Alike t t′) where
