@@ -136,7 +136,8 @@ uint32_t yotselina_check(const uint8_t *file, size_t file_length);
  * `path_b` the numbers of the two paths' lines (from 0 in the order of the file), `output_x` and `output_y` what they write. Word and paths
  * have at most 2u - 1 items; path_a stands before path_b in dictionary order, a list before its own extensions.
  * Single: there is no such word, however long. Only `answer` is written.
- * Files whose tables are alike (docs/MANUAL.md, the table file: the same lines, in any order and each any number of times) get the same [0] and [1].
+ * Files whose tables are alike (docs/MANUAL.md, the table file: as many states, the same start and final states, and the same lines, in any order and
+ * each any number of times) get the same [0] and [1].
  *
  * Refusals: 100; 1 to 6, 12 with the record; 7 if any of the five lists is below its size, whatever the verdict would be.
  * Stack: 131,072 bytes.

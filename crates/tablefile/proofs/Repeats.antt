@@ -1,5 +1,5 @@
 -- A line that is pasted a second time is written and read: the statement of specs/Repeats.antt holds. Assumes nothing.
-use mathlib.Core.Path.{_≡_, sym, ap, _∙_}
+use mathlib.Core.Path.{_≡_}
 use mathlib.Core.List.{List, [], _∷_, _++_, flatMap, append-assoc, append-nil}
 use Prim.Native.Nat.{ℕ}
 use native.Mathlib.Omega.{arith}
@@ -15,23 +15,16 @@ use Rattle.transducer.proofs.AcceptedLaws.{accepted-valid, valid-accepted}
 use Rattle.transducer.proofs.LineLaws.{appended-lines, appended-valid, appended-shaped}
 use Rattle.transducer.proofs.AlikeLaws.{pasted-alike}
 use Rattle.tablewriter.specs.File.{statesOf, stateBytes, transitionBytes, transitionBytesBelow, headerBytes, writeOf}
+use Rattle.tablewriter.proofs.FileLaws.{flatMap-append}
 use Rattle.tablefile.specs.Repeats.{RepeatsKept}
 use Rattle.tablefile.proofs.ReadWritten.{read-written}
 
--- the records of lines and of one line more
-records-more : (lines : List Transition) (v : Transition) → flatMap transitionBytes (lines ++ (v ∷ [])) ≡ flatMap transitionBytes lines ++ transitionBytes v
-unfolding flatMap
-records-more [] v = append-nil (transitionBytes v)
-records-more (w ∷ lines) v =
-    ap (λ rest. transitionBytes w ++ rest) (records-more lines v) ∙ sym (append-assoc (transitionBytes w) (flatMap transitionBytes lines) (transitionBytes v))
-
 module _ (t : Transducer) (v : Transition) where
-  -- what stands in the file before the last record, the header with one line more
-  abbrev header-and-states : List ℕ
-  header-and-states = headerBytes (appended t v) ++ stateBytes letterS (statesOf (t .starts)) ++ stateBytes letterF (statesOf (t .finals))
-
+  -- what stands in the file before the last record: the header has one line more
   abbrev front : List ℕ
-  front = header-and-states ++ flatMap transitionBytes (linesOf t)
+  front =
+      headerBytes (appended t v) ++ stateBytes letterS (statesOf (t .starts)) ++ stateBytes letterF (statesOf (t .finals))
+      ++ flatMap transitionBytes (linesOf t)
 
   -- it is as long as the file of t: of the header only the last field, the number of lines, is another
   front-long : length front ≡ length (writeOf t)
@@ -39,11 +32,8 @@ module _ (t : Transducer) (v : Transition) where
   front-long = simp (length-append, length-record)
 
   appended-written : writeOf (appended t v) ≡ front ++ transitionBytes v
-  unfolding writeOf transitionBytesBelow transducerOf
-  appended-written =
-      ap (λ lines. header-and-states ++ flatMap transitionBytes lines) (appended-lines t v)
-      ∙ ap (λ rest. header-and-states ++ rest) (records-more (linesOf t) v)
-      ∙ sym (append-assoc header-and-states (flatMap transitionBytes (linesOf t)) (transitionBytes v))
+  unfolding writeOf transitionBytesBelow transducerOf flatMap
+  appended-written = rw (appended-lines t v) (simp (flatMap-append transitionBytes, append-nil, append-assoc))
 
 -- the theorem
 pub repeats-kept : RepeatsKept
