@@ -58,6 +58,18 @@ wordsTooLong = 13
 abbrev pub noOutputCode : ℕ
 noOutputCode = 14
 
+-- a transition of the first of two transducers in series writes more than one code
+abbrev pub moreThanOneCode : ℕ
+moreThanOneCode = 15
+
+-- two transducers in series have too many joined pairs of states
+abbrev pub manyPairs : ℕ
+manyPairs = 16
+
+-- a transducer would have too many transitions
+abbrev pub manyTransitions : ℕ
+manyTransitions = 17
+
 -- an answer list is too short: a refusal of the library's, which the documents do not have
 abbrev pub answerTooShort : ℕ
 answerTooShort = 100

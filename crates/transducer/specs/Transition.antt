@@ -26,6 +26,14 @@ outputWordOf numbers = map (λ (n : ℕ). record { 0 = n }) numbers
 abbrev pub bytesOf : OutputWord → List ℕ
 bytesOf y = map (λ (c : OutputCode). c .0) y
 
+-- an output code of one transducer as an input code of the next: the same number, read in the other alphabet (document 02, job 3)
+abbrev pub asInput : OutputCode → InputCode
+asInput c = record { 0 = c .0 }
+
+-- an output word as an input word
+abbrev pub asInputs : OutputWord → InputWord
+asInputs y = map asInput y
+
 -- what the code reads past the end of the transitions
 abbrev pub outside : Transition
 outside = record { from = 0; to = 0; input = record { 0 = 0 }; count = 0; output = [] }

@@ -3,6 +3,7 @@
 // and its relation, is in specs/Paths.antt and the files after it, which the crates above cite.
 ghost use mathlib.Core.Path.{_≡_};
 ghost use Rattle.transducer.specs.StateSet.{has, withState, noStates};
+ghost use Rattle.transducer.specs.Transition.{asInput};
 ghost use Rattle.transducer.specs.Blank.{clearTransition, blankTransducer};
 ghost use Rattle.transducer.specs.Accepted.{Asked};
 
@@ -38,6 +39,15 @@ pub struct Transducer {
     pub finals: StateSet,
     pub count: u16,
     pub transitions: [Transition; limits::TRANSITIONS],
+}
+
+impl OutputCode {
+    // The same number as an input code: what one transducer writes and the next one reads.
+    pub fn as_input(self) -> InputCode
+        ensures { λ r. ⌜ r ≡ asInput self ⌝ }
+    {
+        InputCode(self.0)
+    }
 }
 
 impl StateSet {

@@ -29,5 +29,11 @@ pub const TOO_LONG: u8 = 12;
 pub const WORDS_TOO_LONG: u8 = 13;
 // A byte of an output word is no output code.
 pub const NO_OUTPUT_CODE: u8 = 14;
+// A transition of the first of two transducers in series writes more than one code.
+pub const MORE_THAN_ONE_CODE: u8 = 15;
+// Two transducers in series have too many joined pairs of states.
+pub const MANY_PAIRS: u8 = 16;
+// A transducer would have too many transitions.
+pub const MANY_TRANSITIONS: u8 = 17;
 // An answer list is too short: the library's own, which the documents do not have.
 pub const ANSWER_TOO_SHORT: u8 = 100;
