@@ -17,7 +17,7 @@ use Rattle.product.specs.Steps.{Steps, targetOf}
 use Rattle.product.proofs.LabelLaws.{pair-first, pair-second, pair-again, edge-number, Labelled}
 use Rattle.product.proofs.ImageLaws.{steps-labelled, labelled-steps, silent-key, written-key}
 use Rattle.joints.specs.Joint.{oneCode, after, jointStep}
-use Rattle.joints.proofs.JointLaws.{Joint, joint-kind, kind-joint, entered, joint-below}
+use Rattle.joints.proofs.JointLaws.{Joint, side-below, joint-kind, kind-joint, joint-sides, joint-after}
 
 -- ---- what a side takes, as a joint step and as a label counts it
 
@@ -49,26 +49,26 @@ pub record Coupled (first second : Transducer) (left right : List ℕ) : Type 0 
   pub image : ImageOf first true left
   pub image′ : ImageOf second false right
 
-module _ {first second : Transducer} {left right : List ℕ} (c : Coupled first second left right) where
-  -- a transition of the first writes at most one code
-  at-most-one : {l : ℕ} → l < first .count → at first l .count ≤ 1
-  unfolding oneCode
-  at-most-one {l} h = leb-true _ _ (all-at (first .count) (λ l. leb (at first l .count) 1) (c .one-code) l h)
+-- each transition writes at most one code where the test says so
+pub at-most-one : (t : Transducer) → oneCode t ≡ true → (l : ℕ) → l < t .count → at t l .count ≤ 1
+unfolding oneCode
+at-most-one t one l h = leb-true _ _ (all-at (t .count) (λ l. leb (at t l .count) 1) one l h)
 
-  -- it writes none where its key is 0, and else one
+module _ {first second : Transducer} {left right : List ℕ} (c : Coupled first second left right) where
+  -- a transition of the first writes none where its key is 0, and else one
   writes-none : {l : ℕ} → l < first .count → keyFor true (at first l) ≡ 0 → at first l .count ≡ 0
   writes-none {l} h z = go (at first l .count) refl
     where
       go : (n : ℕ) → at first l .count ≡ n → n ≡ 0
       go zero e = refl
-      go (suc n) e = absurd (let w = written-key (c .valid) h (omega (arith, at-most-one h)) .0 in omega (arith, z))
+      go (suc n) e = absurd (let w = written-key (c .valid) h (omega (arith, at-most-one first (c .one-code) l h)) .0 in omega (arith, z))
 
   writes-one : {l : ℕ} → l < first .count → keyFor true (at first l) ≢ 0 → at first l .count ≡ 1
   writes-one {l} h z = go (at first l .count) refl
     where
       go : (n : ℕ) → at first l .count ≡ n → n ≡ 1
       go zero e = absurd (z (silent-key (c .valid) h e))
-      go (suc n) e = omega (arith, at-most-one h)
+      go (suc n) e = omega (arith, at-most-one first (c .one-code) l h)
 
   -- the label of a step of the transducers is that of a joint step
   pub labelled-joint : {u k v : ℕ} → Labelled first true second false u k v
@@ -116,7 +116,7 @@ module _ {first second : Transducer} {left right : List ℕ} (c : Coupled first 
   -- which leads to the same pair
   pub target-entered : {u : ℕ} (l m : ℕ) → m ≤ noTransition → Steps left right u (labelOf l m)
       → targetOf left right u (labelOf l m) ≡ pairOf (after first (firstOf u) (choiceOf l)) (after second (secondOf u) (choiceOf m))
-  target-entered l m h s = let e = entered (step-kind l m h s) in rw (e .0, e .1) (sym (pair-again _))
+  target-entered l m h s = let e = joint-after (step-kind l m h s) in rw (e .0, e .1) (sym (pair-again _))
 
   -- and each joint step is one of the machines
   pub joint-steps : (u a b : ℕ) → jointStep first second (firstOf u) (secondOf u) a b ≡ true → Steps left right u (labelOf (inLabel a) (inLabel b))
@@ -124,7 +124,7 @@ module _ {first second : Transducer} {left right : List ℕ} (c : Coupled first 
       let j = joint-kind _ _ a b h in
       let p = after first (firstOf u) a in
       let q = after second (secondOf u) b in
-      let low = joint-below (c .valid) (c .valid′) (c .valid .few-states) (c .valid′ .few-states) j .1 (omega arith) in
+      let low = side-below (c .valid′) (c .valid′ .few-states) (joint-sides j .1) (omega arith) in
       let v = pairOf p q in
       let j′ : Joint first second (firstOf u) (secondOf u) (firstOf v) (secondOf v) a b = rw (pair-first p q low, pair-second p q low) j in
       labelled-steps (c .image) (c .image′) (joint-labelled j′) .steps

@@ -2,7 +2,7 @@
 // two final ones. The contract of `joined_pairs` cites specs/Joint.antt and specs/Found.antt. Joint steps are the steps of two machines, the first
 // transducer's by what it writes and the second's by what it reads, so that both searches are those of `product`.
 ghost use mathlib.Core.Path.{_≡_};
-ghost use mathlib.Core.Bool.{true, false, cond};
+ghost use mathlib.Core.Bool.{true, false};
 ghost use lib.ListN.{length, replicate};
 ghost use Rattle.transducer.specs.Valid.{Valid};
 ghost use Rattle.transducer.specs.Reversal.{reversedOf};
@@ -11,14 +11,13 @@ ghost use Rattle.product.specs.Numbers.{mostPairs};
 ghost use Rattle.product.specs.Confined.{Lent};
 ghost use Rattle.joints.specs.Joint.{oneCode};
 ghost use Rattle.joints.specs.Found.{PairsFound};
-ghost use Rattle.joints.specs.Search.{Marked, Searched};
+ghost use Rattle.joints.specs.Search.{Searched};
 use product::machine;
 use product::machine::PLACES;
 use product::search;
 use product::steps::PAIRS;
 use transducer::StateSet;
 use transducer::Transducer;
-use transducer::limits;
 
 // Writes a number that is not 0 for each joined pair of `first` and `second`, and 0 for each other; their machines are `left`, by what the first writes,
 // and `right`, by what the second reads. One search finds all pairs that joint steps reach from two start states; they are pairs of states of the two.
@@ -42,7 +41,7 @@ pub fn joined_pairs(
     let mut back_right = [0u16; PLACES];
     reverse(first, second, &mut back_left, &mut back_right);
     let mut all = [0u32; PAIRS];
-    mark_states(first.states, second.states, &mut all);
+    search::mark_states(first.states, second.states, &mut all);
     let mut reached = [0u32; PAIRS];
     find(left, right, first.starts, second.starts, &all, &mut reached);
     find(
@@ -66,28 +65,6 @@ fn reverse(first: Transducer, second: Transducer, left: &mut [u16], right: &mut 
 {
     machine::by_output_reversed(first, left);
     machine::by_input_reversed(second, right);
-}
-
-// Writes 1 for each pair of one of the first n states and one of the first n2, 0 for each other.
-fn mark_states(n: u8, n2: u8, numbers: &mut [u32])
-    requires { ⌜ length (now numbers) ≡ mostPairs ⌝ }
-    ensures { λ _. ⌜ Marked n n2 (now (numbers .exit)) mostPairs ⌝ }
-{
-    let states = n as usize;
-    let states2 = n2 as usize;
-    for v in 0..PAIRS {
-        numbers[v] = one_if((v / limits::STATES < states) & (v % limits::STATES < states2));
-    }
-}
-
-// 1 where the test holds, else 0.
-fn one_if(test: bool) -> u32
-    ensures { λ r. ⌜ r ≡ cond test 1 0 ⌝ }
-{
-    if test {
-        return 1;
-    }
-    0
 }
 
 // Writes a number that is not 0 for each pair that the search confined to `allowed` finds from the pairs of a state of `starts` and one of `starts2`.

@@ -7,7 +7,6 @@ use lib.ListN.{length, getD, replicate, length-replicate}
 use Rattle.worklist.specs.Lists.{lists}
 use Rattle.worklist.specs.Search.{Blank}
 use Rattle.product.specs.Numbers.{mostPairs}
-use Rattle.product.specs.Confined as confined
 
 -- a search may begin with lists of a place for each pair and fresh ranks
 pub fresh : {order parent via : List ℕ} → length order ≡ mostPairs → length parent ≡ mostPairs → length via ≡ mostPairs

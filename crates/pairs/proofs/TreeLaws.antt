@@ -15,7 +15,6 @@ use Rattle.transducer.proofs.WalkLaws.{useful-pair-between}
 use Rattle.transducer.proofs.MoveLaws.{covers-reaches, covers-leaves}
 use Rattle.transducer.proofs.ReversalLaws.{reversed-at, reversed-edge, reversed-valid}
 use Rattle.product.specs.Numbers.{mostPairs, pairOf, firstOf, secondOf, stepOf, Moves}
-use Rattle.product.specs.Confined as confined
 use Rattle.product.specs.Confined.{Allowed}
 use Rattle.pairs.specs.Ways.{MovesBack, Tree}
 use Rattle.product.proofs.LabelLaws.{pair-first, pair-second, pair-again}

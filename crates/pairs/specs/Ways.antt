@@ -1,11 +1,11 @@
 -- The ways into and out of the useful pairs. A way is kept as links: for each pair the number of the next one, plus 1, and the label of the step
 -- between the two; 0 where the way ends.
-use mathlib.Core.Bool.{Bool, cond, _&&_}
+use mathlib.Core.Bool.{cond}
 use mathlib.Core.Path.{_≡_}
 use mathlib.Core.List.{List}
 use mathlib.Core.Logic.{_↔_, _≢_}
 use Prim.Native.Nat.{ℕ, _+_, _-_, _≤_, _<_}
-use lib.Dec.{eqb, ltb}
+use lib.Dec.{eqb}
 use lib.ListN.{length, getD}
 use Rattle.worklist.specs.Lists.{Worklist, Found}
 use Rattle.worklist.specs.Search.{Grown, Chain}
@@ -100,14 +100,3 @@ pub record Linked (order parent via link step : List ℕ) (bound : ℕ) : Type 0
   pub links : (i : ℕ) → i < bound → getD link (getD order i 0) 0 ≡ linkOf order (getD parent i 0)
   pub steps : (i : ℕ) → i < bound → getD step (getD order i 0) 0 ≡ getD via i 0
   pub only : (v : ℕ) → getD link v 0 ≢ 0 → (i : ℕ) × (i < bound) × (getD order i 0 ≡ v)
-
--- ---- the list by which a search is confined
-
--- both states of the pair v are below n
-unfoldable pub bothBelow : ℕ → ℕ → Bool
-bothBelow n v = ltb (firstOf v) n && ltb (secondOf v) n
-
--- of the pairs below `bound`, the numbers of those that pass the test are 1, and those of the others 0
-pub record Marked (test : ℕ → Bool) (numbers : List ℕ) (bound : ℕ) : Type 0 where
-  pub long : length numbers ≡ mostPairs
-  pub tested : (v : ℕ) → v < bound → getD numbers v 0 ≡ cond (test v) 1 0

@@ -1,7 +1,7 @@
 // Useful pairs of states (document 01, "Useful states and useful pairs"), and the ways into and out of them. The contracts cite
 // specs/UsefulPairs.antt: `UsefulPairsOf`, what `useful_pairs` answers; and specs/Ways.antt: `WaysOut`,
 // `Discovered` and `WayIn`, what `ways_out` and `ways_in` leave.
-ghost use mathlib.Core.Bool.{true, false, cond};
+ghost use mathlib.Core.Bool.{true, false};
 ghost use mathlib.Core.Path.{_≡_};
 ghost use Prim.Native.Nat.{ℕ, _-_, _≤_, _<_};
 ghost use lib.ListN.{length, getD};
@@ -12,8 +12,9 @@ ghost use Rattle.transducer.specs.Accepted.{acceptedOf};
 ghost use Rattle.transducer.specs.Reversal.{reversedOf};
 ghost use Rattle.product.specs.Machine.{ImageOf};
 ghost use Rattle.product.specs.Numbers.{mostPairs};
+ghost use Rattle.product.specs.Confined.{Marked};
 ghost use Rattle.pairs.specs.UsefulPairs.{hasPair, isMember, noPairs, pairsOf, numberOf, UsefulPairsOf};
-ghost use Rattle.pairs.specs.Ways.{MovesBack, Tree, WaysOut, Discovered, WayIn, linkOf, Traced, Linked, bothBelow, Marked};
+ghost use Rattle.pairs.specs.Ways.{MovesBack, Tree, WaysOut, Discovered, WayIn, linkOf, Traced, Linked};
 use product::machine;
 use product::machine::PLACES;
 use product::search;
@@ -176,29 +177,8 @@ fn mark(set: PairSet, numbers: &mut [u32])
     ensures { λ _. ⌜ Marked (isMember set) (now (numbers .exit)) mostPairs ⌝ }
 {
     for v in 0..PAIRS {
-        numbers[v] = one_if(set.member[v]);
+        numbers[v] = search::one_if(set.member[v]);
     }
-}
-
-// Writes 1 for each pair of two of the first n states, 0 for each other.
-fn mark_states(n: u8, numbers: &mut [u32])
-    requires { ⌜ length (now numbers) ≡ mostPairs ⌝ }
-    ensures { λ _. ⌜ Marked (bothBelow n) (now (numbers .exit)) mostPairs ⌝ }
-{
-    let states = n as usize;
-    for v in 0..PAIRS {
-        numbers[v] = one_if((v / limits::STATES < states) & (v % limits::STATES < states));
-    }
-}
-
-// 1 where the test holds, else 0.
-fn one_if(test: bool) -> u32
-    ensures { λ r. ⌜ r ≡ cond test 1 0 ⌝ }
-{
-    if test {
-        return 1;
-    }
-    0
 }
 
 // Writes the links of the `count` pairs that a search has found: for the pair at each place, 1 + the pair at its parent's place, or 0 for a root;
@@ -251,7 +231,7 @@ fn search_back(
     ensures { λ n. ⌜ Tree t (t .finals) (MovesBack t) (lists (now (order .exit)) (now (rank .exit)) (now (parent .exit)) (now (via .exit)) n) ⌝ }
 {
     let mut all = [0u32; PAIRS];
-    mark_states(t.states, &mut all);
+    search::mark_states(t.states, t.states, &mut all);
     let mut reached = [0u32; PAIRS];
     let starts = t.starts;
     search::search(m, m, starts, starts, &all, order, &mut reached, parent, via);

@@ -1,7 +1,7 @@
 -- Laws of the confined search: how the loops over the pairs and over the labels go on when a node is offered. A node that is not allowed is
 -- passed; one at which the search begins is found already. Assumes nothing.
-use mathlib.Core.Path.{_≡_, refl, ap, _∙_, subst}
-use mathlib.Core.Bool.{Bool, true, false, _&&_, cond}
+use mathlib.Core.Path.{_≡_, refl, sym, ap, _∙_, subst}
+use mathlib.Core.Bool.{Bool, true, false, true≢false, _&&_, cond}
 use mathlib.Core.List.{List}
 use Prim.Native.Nat.{ℕ, _+_, _≤_, _<_}
 use native.Mathlib.Decide.{decLt}
@@ -16,8 +16,9 @@ use Rattle.worklist.proofs.AllFound.{all-found, found-within, working-all}
 use Rattle.worklist.proofs.Stages.{rooted-skip, rooted-visit, scanned-skip, scanned-visit, scanned-join, expanded}
 use Rattle.transducer.proofs.Bools.{and-both}
 use Rattle.transducer.proofs.Facts.{in-below}
+use Rattle.transducer.specs.StateSet.{has}
 use Rattle.transducer.specs.declared.StateSet.{StateSet}
-use Rattle.product.specs.Numbers.{mostPairs, labelOf, PairIn}
+use Rattle.product.specs.Numbers.{mostPairs, firstOf, secondOf, labelOf, PairIn}
 use Rattle.product.specs.Steps.{pastLast, RowFrom, Steps, targetOf}
 use Rattle.product.specs.Confined.{Allowed, offered, Begins, Goes, Ready}
 use Rattle.product.proofs.TargetLaws.{target-low}
@@ -26,6 +27,15 @@ use Rattle.product.proofs.StepLaws.{Past, past-row-after, past-last-row
 -- two tests that hold do not fail together
 pub not-both : {a b : Bool} → a ≡ true → b ≡ true → (a && b) ≡ false → ⊥
 not-both p q r = let e = and-both p q in let z : _≡_ {A = ℕ} 0 1 = cc in omega arith
+
+-- whether the states of a pair are in two sets is decided
+pub pair-in : (s s′ : StateSet) (v : ℕ) → Dec (PairIn s s′ v)
+pair-in s s′ v = go (has s (firstOf v)) (has s′ (secondOf v)) refl refl
+  where
+    go : (a b : Bool) → has s (firstOf v) ≡ a → has s′ (secondOf v) ≡ b → Dec (PairIn s s′ v)
+    go true true e d = yes (record { first = e; second = d })
+    go true false e d = no (λ p. true≢false (sym (p .second) ∙ d))
+    go false b e d = no (λ p. true≢false (sym (p .first) ∙ e))
 
 -- before a search too the lists have 1,024 elements each
 pub blank-lengths : {s : Worklist} → Blank mostPairs s → Lengths mostPairs s

@@ -1,16 +1,16 @@
 -- The worklist search over pairs of states, one of each of two machines, that is confined to a list of numbers, one for each pair: a pair is
 -- allowed where its number is not 0. The search begins at the pairs of start states and goes by steps, to allowed pairs only.
-use mathlib.Core.Bool.{cond}
+use mathlib.Core.Bool.{Bool, cond, _&&_}
 use mathlib.Core.Path.{_≡_}
 use mathlib.Core.List.{List}
 use Prim.Native.Nat.{ℕ, _<_}
 use lib.ListN.{length, getD}
-use lib.Dec.{eqb}
+use lib.Dec.{eqb, ltb}
 use Rattle.worklist.specs.Lists.{Worklist, Found, visited}
 use Rattle.worklist.specs.Search.{Grown}
 use Rattle.transducer.specs.declared.StateSet.{StateSet}
 use Rattle.product.specs.Machine.{Machine}
-use Rattle.product.specs.Numbers.{mostPairs, PairIn}
+use Rattle.product.specs.Numbers.{mostPairs, firstOf, secondOf, PairIn}
 use Rattle.product.specs.Steps.{Steps, targetOf}
 
 -- the pair v is allowed
@@ -51,3 +51,14 @@ module _ (starts starts′ : StateSet) (allowed : List ℕ) where
       pub roots : (v : ℕ) → Begins v → Found s v
       -- the place is taken
       pub place : head < s .count
+
+-- ---- a list that allows the pairs that pass a test
+
+-- the first state of the pair v is below n, the second below n′
+unfoldable pub bothBelow : ℕ → ℕ → ℕ → Bool
+bothBelow n n′ v = ltb (firstOf v) n && ltb (secondOf v) n′
+
+-- of the pairs below `bound`, the numbers of those that pass the test are 1, and those of the others 0
+pub record Marked (test : ℕ → Bool) (numbers : List ℕ) (bound : ℕ) : Type 0 where
+  pub long : length numbers ≡ mostPairs
+  pub tested : (v : ℕ) → v < bound → getD numbers v 0 ≡ cond (test v) 1 0

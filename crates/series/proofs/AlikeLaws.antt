@@ -12,6 +12,7 @@ use Rattle.transducer.specs.Transition.{InputWord, OutputWord, at}
 use Rattle.transducer.specs.Blank.{blankTransducer}
 use Rattle.transducer.specs.Lines.{transducerOf, AllAmong}
 use Rattle.transducer.specs.Paths.{Relates}
+use Rattle.transducer.specs.Walks.{Edge}
 use Rattle.transducer.specs.Alike.{Alike}
 use Rattle.transducer.specs.declared.StateSet.{StateSet}
 use Rattle.transducer.specs.declared.Transducer.{Transducer}
@@ -19,75 +20,64 @@ use Rattle.transducer.proofs.LineLaws.{at-among, among-numbered}
 use Rattle.transducer.proofs.WithinLaws.{Within}
 use Rattle.transducer.proofs.AlikeLaws.{alike-self, alike-sym, alike-within}
 use Rattle.product.specs.Numbers.{pairOf, firstOf, secondOf}
-use Rattle.joints.specs.Joint.{after, JointPath, JoinedPair}
+use Rattle.joints.specs.Joint.{JointPath, JoinedPair}
+use Rattle.joints.proofs.JointLaws.{Joint, together, first-alone, second-alone, joint-kind, joint-after, path-before}
 use Rattle.series.specs.Result.{stateOf, pairs, bothIn, taken, stepLine, lines, pairTransducer, resultOf}
 use Rattle.series.specs.Join.{numberOf, JoinedOf}
 use Rattle.series.specs.Composition.{AlikeJoins}
 use Rattle.series.specs.declared.Joined.{Joined}
-use Rattle.series.proofs.StepLaws.{Takes, Joint, first-alone, second-alone, together, joint-facts, facts-joint}
 use Rattle.series.proofs.ResultLaws.{line-step, step-line, pair-lines}
 use Rattle.series.proofs.SeriesLaws.{taken-result, in-series, same-joined}
 
 -- ---- what stands in others
 
--- sides of two transducers take nothing, or the same line
-data Same (t t′ : Transducer) : ℕ → ℕ → Type 0 where
-  none : Same t t′ 0 0
-  line : {l l′ : ℕ} → at t l ≡ at t′ l′ → Same t t′ (suc l) (suc l′)
-
--- so they read and write the same, and enter the same state
-same-taken : {t t′ : Transducer} {a a′ : ℕ} → Same t t′ a a′ → taken t a ≡ taken t′ a′
-same-taken none = refl
-same-taken (line e) = e
-
-same-after : {t t′ : Transducer} {a a′ : ℕ} (p : ℕ) → Same t t′ a a′ → after t p a ≡ after t′ p a′
-same-after p none = refl
-same-after p (line e) = ap (λ v. v .to) e
-
--- a line that leaves p, in another transducer
-record Other (t t′ : Transducer) (p l : ℕ) : Type 0 where
+-- a transition from p to p′, in another transducer
+record Other (t t′ : Transducer) (l p p′ : ℕ) : Type 0 where
   l′ : ℕ
-  takes : Takes t′ p l′
+  edge : Edge t′ l′ p p′
   same : at t l ≡ at t′ l′
 
-other : {t t′ : Transducer} {p l : ℕ} → Within t t′ → Takes t p l → Other t t′ p l
-other {t} {t′} {p} {l} h k =
-    let n = among-numbered t′ (h .transitions (at t l) (at-among t l (k .used))) in
-    record { l′ = n .number; takes = record { used = n .below; from = ap (λ v. v .from) (n .same) ∙ k .from }; same = sym (n .same) }
+other : {t t′ : Transducer} {l p p′ : ℕ} → Within t t′ → Edge t l p p′ → Other t t′ l p p′
+other {t} {t′} {l} h x =
+    let n = among-numbered t′ (h .transitions (at t l) (at-among t l (x .used))) in
+    record {
+      l′ = n .number;
+      edge = record { used = n .below; source = ap (λ v. v .from) (n .same) ∙ x .source; target = ap (λ v. v .to) (n .same) ∙ x .target };
+      same = sym (n .same);
+    }
 
 module _ {first first′ second second′ : Transducer} (h : Within first first′) (h′ : Within second second′) where
-  -- the same step of the others
-  record Copied (p q a b : ℕ) : Type 0 where
+  -- the same step of the others: their sides take the same
+  record Copied (p q p′ q′ a b : ℕ) : Type 0 where
     a′ : ℕ
     b′ : ℕ
-    joint : Joint first′ second′ p q a′ b′
-    one : Same first first′ a a′
-    two : Same second second′ b b′
+    joint : Joint first′ second′ p q p′ q′ a′ b′
+    one : taken first a ≡ taken first′ a′
+    two : taken second b ≡ taken second′ b′
 
-  step-copied : {p q a b : ℕ} → Joint first second p q a b → Copied p q a b
-  step-copied (first-alone k e) =
-      let o = other h k in
-      record { a′ = suc (o .l′); b′ = 0; joint = first-alone (o .takes) (rw (o .same) at e); one = line (o .same); two = none }
-  step-copied (second-alone k e) =
-      let o = other h′ k in
-      record { a′ = 0; b′ = suc (o .l′); joint = second-alone (o .takes) (rw (o .same) at e); one = none; two = line (o .same) }
-  step-copied (together k k′ e c) =
-      let o = other h k in
-      let o′ = other h′ k′ in
+  step-copied : {p q p′ q′ a b : ℕ} → Joint first second p q p′ q′ a b → Copied p q p′ q′ a b
+  step-copied (first-alone x d e) =
+      let o = other h x in
+      record { a′ = suc (o .l′); b′ = 0; joint = first-alone (o .edge) d (rw (o .same) at e); one = o .same; two = refl }
+  step-copied (second-alone d y e) =
+      let o = other h′ y in
+      record { a′ = 0; b′ = suc (o .l′); joint = second-alone d (o .edge) (rw (o .same) at e); one = refl; two = o .same }
+  step-copied (together x y e c) =
+      let o = other h x in
+      let o′ = other h′ y in
       record {
         a′ = suc (o .l′);
         b′ = suc (o′ .l′);
-        joint = together (o .takes) (o′ .takes) (rw (o .same) at e) (rw (o .same, o′ .same) at c);
-        one = line (o .same);
-        two = line (o′ .same);
+        joint = together (o .edge) (o′ .edge) (rw (o .same) at e) (rw (o .same, o′ .same) at c);
+        one = o .same;
+        two = o′ .same;
       }
 
   -- joint paths are joint paths of the others
   path-copied : {p q p′ q′ : ℕ} → JointPath first second p q p′ q′ → JointPath first′ second′ p q p′ q′
   path-copied (JointPath.here e d) = JointPath.here e d
   path-copied (JointPath.step a b t k) =
-      let s = step-copied (joint-facts first second _ _ a b t) in
-      JointPath.step (s .a′) (s .b′) (facts-joint first′ second′ (s .joint)) (rw (same-after _ (s .one), same-after _ (s .two)) at (path-copied k))
+      let s = step-copied (joint-kind _ _ a b t) in path-before (s .a′) (s .b′) (s .joint) (path-copied k)
 
   -- a joined pair is one of the others
   pair-copied : {p q : ℕ} → JoinedPair first second p q → JoinedPair first′ second′ p q
@@ -105,19 +95,18 @@ module _ {first first′ second second′ : Transducer} (h : Within first first�
   lines-copied joined w m =
       let s = line-step first second joined m in
       let c = step-copied (s .steps .joint) in
-      let to = same-after (firstOf (s .v)) (c .one) in
-      let to′ = same-after (secondOf (s .v)) (c .two) in
+      let to = joint-after (c .joint) in
       let same : stepLine first second joined (s .v) (s .a) (s .b) ≡ stepLine first′ second′ joined (s .v) (c .a′) (c .b′) =
       λ i. record {
         from = stateOf joined (s .v);
-        to = stateOf joined (pairOf (to i) (to′ i));
-        input = same-taken (c .one) i .input;
-        count = same-taken (c .two) i .count;
-        output = same-taken (c .two) i .output;
+        to = stateOf joined (pairOf (sym (to .0) i) (sym (to .1) i));
+        input = c .one i .input;
+        count = c .two i .count;
+        output = c .two i .output;
       } in
       Memᴰ·cast (s .is ∙ same)
       (step-line first′ second′ joined (s .v) (c .a′) (c .b′) (s .low)
-      (record { from-joined = s .steps .from-joined; joint = c .joint; to-joined = rw (to, to′) at (s .steps .to-joined) }))
+      (record { from-joined = s .steps .from-joined; joint = rw (to .0, to .1) (c .joint); to-joined = rw (to .0, to .1) (s .steps .to-joined) }))
 
 -- ---- alike joins
 

@@ -19,27 +19,16 @@ use Rattle.transducer.specs.declared.Transducer.{Transducer}
 use Rattle.transducer.proofs.PathLaws.{output-to}
 use Rattle.transducer.proofs.Facts.{in-below}
 use Rattle.transducer.proofs.LineLaws.{at-among, among-numbered}
-use Rattle.transducer.proofs.WithinLaws.{Labelled}
+use Rattle.transducer.proofs.WithinLaws.{Labelled, labelled-relates}
 use Rattle.product.specs.Numbers.{mostPairs, pairOf, firstOf, secondOf}
 use Rattle.product.proofs.LabelLaws.{pair-first, pair-second, pair-again}
-use Rattle.joints.specs.Joint.{after, JointPath, Reached, Finishes, JoinedPair}
+use Rattle.joints.specs.Joint.{Reached, Finishes, JoinedPair}
+use Rattle.joints.proofs.JointLaws.{side-below, joint-sides, joint-after, start-reached, reached-after, reached-along, end-finishes, finishes-along}
 use Rattle.series.specs.Result.{stateOf, pairs, entered, stepLine, pairTransducer}
 use Rattle.series.specs.Composition.{Composes}
 use Rattle.series.proofs.StateLaws.{state-same, pair-at}
-use Rattle.series.proofs.StepLaws.{side-state, facts-joint, joint-sides}
-use Rattle.series.proofs.RunLaws.{Run, stop, more, run-path, path-run, reached-more, finishes-more, run-sides, paths-run}
-use Rattle.series.proofs.ResultLaws.{Leads, StepOf, line-step, step-line, pair-lines, entered-first, entered-second, set-at, set-of}
-
--- a path from a start state to a final one relates its words
-labelled-relates : (t : Transducer) {p q : ℕ} {x : InputWord} {y : OutputWord} → In (t .starts) p → Labelled t p q x y → In (t .finals) q
-    → Relates t x y
-labelled-relates t {p} {q} s k f =
-    record {
-      π = k .π;
-      accepting = record { first = p; last = q; starts = s; path = k .path; ends = f };
-      read = k .read;
-      written = output-to t (k .π) q ∙ k .written;
-    }
+use Rattle.series.proofs.RunLaws.{Run, stop, more, run-path, path-run, run-sides, paths-run}
+use Rattle.series.proofs.ResultLaws.{Leads, leads-states, StepOf, line-step, step-line, pair-lines, set-at, set-of}
 
 module _ (first second : Transducer) (joined : ℕ → Bool) (valid : Valid first) (valid′ : Valid second) where
   abbrev table : Transducer
@@ -58,12 +47,12 @@ module _ (first second : Transducer) (joined : ℕ → Bool) (valid : Valid firs
   run-before : (v a b l : ℕ) {κ : List ℕ} {j : ℕ} → Leads first second joined v a b → at table l ≡ stepLine first second joined v a b
       → RunOf (entered first second v a b) κ j → RunOf v (l ∷ κ) j
   run-before v a b l h is r =
-      let side = joint-sides first second (h .joint) .1 in
+      let to = leads-states first second joined v a b valid′ h in
       record {
         u = r .u;
         holds = r .holds;
         state = r .state;
-        run = rw is (more a b (h .joint) (rw (entered-first first v a valid′ side, entered-second first v a valid′ side) at (r .run)));
+        run = rw is (more a b (h .joint) (rw (to .0, to .1) at (r .run)));
       }
 
   -- each path has its run
@@ -94,8 +83,8 @@ module _ (first second : Transducer) (joined : ℕ → Bool) (valid : Valid firs
       rw (← r .read, ← r .written, output-to table (r .π) (a .last))
       (record {
         y = sides .y;
-        one = labelled-relates first (s .inside .first) (sides .one) (ends .first);
-        other = labelled-relates second (s .inside .second) (sides .other) (ends .second);
+        one = labelled-relates (s .inside .first) (sides .one) (ends .first);
+        other = labelled-relates (s .inside .second) (sides .other) (ends .second);
       })
 
   -- ---- from runs to its paths
@@ -113,20 +102,21 @@ module _ (first second : Transducer) (joined : ℕ → Bool) (valid : Valid firs
     run-labelled : {p q p′ q′ : ℕ} {x : InputWord} {z : OutputWord} → p < mostStates → q < mostStates
         → Reached first second p q → Run first second p q x z p′ q′ → Finishes first second p′ q′ → Labelled table (stateIn p q) (stateIn p′ q′) x z
     run-labelled hp hq r (stop e d) f = record { π = []; path = here (λ i. stateIn (e i) (d i)); read = refl; written = refl }
-    run-labelled {p} {q} {p′} {q′} hp hq r (more a b j k) f =
-        let sides = joint-sides first second j in
-        let hp′ = side-state valid (sides .0) hp in
-        let hq′ = side-state valid′ (sides .1) hq in
-        let next = reached-more first second (JointPath.step a b (facts-joint first second j) (JointPath.here refl refl)) r in
+    run-labelled {p} {q} {p′} {q′} hp hq r (more {p′ = p₁} {q′ = q₁} a b j k) f =
+        let sides = joint-sides j in
+        let to = joint-after j in
+        let hp′ = side-below valid (valid .few-states) (sides .0) hp in
+        let hq′ = side-below valid′ (valid′ .few-states) (sides .1) hq in
+        let next = reached-after a b j r in
         let v = pairOf p q in
         let is-first = pair-first p q hq in
         let is-second = pair-second p q hq in
-        let enters : entered first second v a b ≡ pairOf (after first p a) (after second q b) = rw (is-first, is-second) in
+        let enters : entered first second v a b ≡ pairOf p₁ q₁ = rw (is-first, is-second, to .0, to .1) in
         let leads : Leads first second joined v a b =
         record {
-          from-joined = is-joined p q hq r (finishes-more first second (run-path first second (more a b j k)) f);
-          joint = rw (is-first, is-second) j;
-          to-joined = rw enters (is-joined _ _ hq′ next (finishes-more first second (run-path first second k) f));
+          from-joined = is-joined p q hq r (finishes-along (run-path first second (more a b j k)) f);
+          joint = rw (is-first, is-second, to .0, to .1) j;
+          to-joined = rw enters (is-joined _ _ hq′ next (finishes-along (run-path first second k) f));
         } in
         let n = among-numbered table (rw (← pair-lines first second joined) at (step-line first second joined v a b (omega arith) leads)) in
         let rest = run-labelled hp′ hq′ next k f in
@@ -137,29 +127,22 @@ module _ (first second : Transducer) (joined : ℕ → Bool) (valid : Valid firs
           written = rw (n .same, rest .written);
         }
 
-    -- two start states are reached, and two final states finish
-    begun : {p q : ℕ} → In (first .starts) p → In (second .starts) q → Reached first second p q
-    begun {p} {q} h k = record { s = p; s′ = q; starts = h; starts′ = k; comes = JointPath.here refl refl }
-
-    ended : {p q : ℕ} → In (first .finals) p → In (second .finals) q → Finishes first second p q
-    ended {p} {q} h k = record { f = p; f′ = q; goes = JointPath.here refl refl; ends = h; ends′ = k }
-
     module _ (few : length (pairs joined) ≤ mostStates) {p q : ℕ} where
-      -- they become start states and final states
+      -- two start states become a start state, and two final states a final one
       pair-starts : In (first .starts) p → In (second .starts) q → Finishes first second p q → In (table .starts) (stateIn p q)
       unfolding pairTransducer transducerOf
       pair-starts h k f =
-          set-of joined (first .starts) (second .starts) p q few (is-joined p q (in-below (second .starts) q k) (begun h k) f) h k
+          set-of joined (first .starts) (second .starts) p q few (is-joined p q (in-below (second .starts) q k) (start-reached h k) f) h k
 
       pair-finals : In (first .finals) p → In (second .finals) q → Reached first second p q → In (table .finals) (stateIn p q)
       unfolding pairTransducer transducerOf
       pair-finals h k r =
-          set-of joined (first .finals) (second .finals) p q few (is-joined p q (in-below (second .finals) q k) r (ended h k)) h k
+          set-of joined (first .finals) (second .finals) p q few (is-joined p q (in-below (second .finals) q k) r (end-finishes h k)) h k
 
     -- from two start states a run has its path
     started : {p q p′ q′ : ℕ} {x : InputWord} {z : OutputWord} → In (first .starts) p → In (second .starts) q
         → Run first second p q x z p′ q′ → Finishes first second p′ q′ → Labelled table (stateIn p q) (stateIn p′ q′) x z
-    started {p} {q} h k run f = run-labelled (in-below (first .starts) p h) (in-below (second .starts) q k) (begun h k) run f
+    started {p} {q} h k run f = run-labelled (in-below (first .starts) p h) (in-below (second .starts) q k) (start-reached h k) run f
 
     module _ (few : length (pairs joined) ≤ mostStates) where
       -- so what the composition relates, it relates
@@ -172,12 +155,12 @@ module _ (first second : Transducer) (joined : ℕ → Bool) (valid : Valid firs
           ap asInputs (sym (output-to first (c .one .π) (a .last)) ∙ c .one .written) ∙ sym (c .other .read) in
           let run = paths-run first second one (a .path) (b .path) passed in
           let path = run-path first second run in
-          let ends = ended (a .ends) (b .ends) in
+          let ends = end-finishes (a .ends) (b .ends) in
           rw (← c .one .read, ← c .other .written, output-to second (c .other .π) (b .last))
-          (labelled-relates table
-          (pair-starts few (a .starts) (b .starts) (finishes-more first second path ends))
+          (labelled-relates
+          (pair-starts few (a .starts) (b .starts) (finishes-along path ends))
           (started (a .starts) (b .starts) run ends)
-          (pair-finals few (a .ends) (b .ends) (reached-more first second path (begun (a .starts) (b .starts)))))
+          (pair-finals few (a .ends) (b .ends) (reached-along path (start-reached (a .starts) (b .starts)))))
 
       -- every state is useful
       pub pair-useful : (i : ℕ) → i < length (pairs joined) → UsefulState table i
@@ -188,14 +171,14 @@ module _ (first second : Transducer) (joined : ℕ → Bool) (valid : Valid firs
           let r = exactly (v .pair) .0 (v .holds) .reached in
           let f = exactly (v .pair) .0 (v .holds) .finishes in
           let comes = started (r .starts) (r .starts′) (path-run first second (r .comes) .run) f in
-          let goes = run-labelled (omega arith) (omega arith) r (path-run first second (f .goes) .run) (ended (f .ends) (f .ends′)) in
+          let goes = run-labelled (omega arith) (omega arith) r (path-run first second (f .goes) .run) (end-finishes (f .ends) (f .ends′)) in
           record {
             first = _;
             last = _;
             front = comes .π;
             back = goes .π;
-            starts = pair-starts few (r .starts) (r .starts′) (finishes-more first second (r .comes) f);
+            starts = pair-starts few (r .starts) (r .starts′) (finishes-along (r .comes) f);
             comes = rw is at (comes .path);
             goes = rw is at (goes .path);
-            ends = pair-finals few (f .ends) (f .ends′) (reached-more first second (f .goes) r);
+            ends = pair-finals few (f .ends) (f .ends′) (reached-along (f .goes) r);
           }

@@ -9,7 +9,7 @@ use Prim.Native.Nat.{ℕ, zero, suc, _+_, _≤_, _<_}
 use native.Mathlib.Nat.{eq-or-lt-of-le, le-of-suc-le-suc}
 use native.Mathlib.Numerals.{add-one}
 use native.Mathlib.Omega.{arith}
-use lib.ListN.{length, getD, replicate}
+use lib.ListN.{length, getD, replicate, length-map, List·getD-append}
 use Rattle.series.specs.Result.{gather, onlyIf}
 
 -- ---- how they grow
@@ -104,8 +104,12 @@ flag-at [] f (suc m) (suc i) e = let h = flag-at [] f m i e in absurd (omega (ar
 flag-at (x ∷ l) f m zero e = (omega arith, e)
 flag-at (x ∷ l) f m (suc i) e = let h = flag-at l f m i e in (omega (arith, h .0), h .1)
 
--- and each of the list's is one of the flags
+-- element i of a list, each element changed
+pub getD-mapped : {A : Type 0} (f : ℕ → A) (l : List ℕ) (d : A) (i : ℕ) → i < length l → getD (map f l) i d ≡ f (getD l i 0)
+getD-mapped f [] d i h = absurd (omega arith)
+getD-mapped f (x ∷ l) d zero h = refl
+getD-mapped f (x ∷ l) d (suc i) h = getD-mapped f l d i (omega arith)
+
+-- each of the list's is one of the flags
 pub flag-of : (l : List ℕ) (f : ℕ → Bool) (m i : ℕ) → i < length l → getD (map f l ++ replicate m false) i false ≡ f (getD l i 0)
-flag-of [] f m i h = absurd (omega arith)
-flag-of (x ∷ l) f m zero h = refl
-flag-of (x ∷ l) f m (suc i) h = flag-of l f m i (omega arith)
+flag-of l f m i h = List·getD-append (map f l) (replicate m false) false i (omega (arith, length-map l f)) ∙ getD-mapped f l false i h

@@ -1,7 +1,6 @@
 -- Laws of two transducers in series: first of the definitions and of what is proved of every answer, then of the parts that make it.
 pub mod GatherLaws
 pub mod StateLaws
-pub mod StepLaws
 pub mod RunLaws
 pub mod ResultLaws
 pub mod RuleLaws

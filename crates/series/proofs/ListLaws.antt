@@ -1,8 +1,8 @@
 -- Steps added to a list one after another, as the loops do it: the list keeps up to 256, and 257 stands for more. Assumes nothing.
-use mathlib.Core.Path.{_≡_, refl, sym, ap, _∙_}
+use mathlib.Core.Path.{_≡_, sym, ap, _∙_}
 use mathlib.Core.List.{List, [], _∷_, _++_, append-assoc, append-nil}
 use mathlib.Core.Logic.{⊎-elim}
-use Prim.Native.Nat.{ℕ, zero, suc, _+_, _≤_, _<_}
+use Prim.Native.Nat.{ℕ, _+_, _≤_, _<_}
 use native.Mathlib.Omega.{arith}
 use lib.ListN.{length, getD, set, length-append, length-set, List·getD-append}
 use lib.Seq.{getD-append-seam, getD-set-same, getD-set-other}
@@ -11,11 +11,6 @@ use Rattle.transducer.proofs.Bools.{le-or-lt}
 use Rattle.series.specs.Result.{gather}
 use Rattle.series.specs.Parts.{over, Listed, Appends}
 use Rattle.series.proofs.GatherLaws.{gather-more, gather-past}
-
--- a number that is not 0 is above it
-pub positive : (n : ℕ) → (n ≡ 0 → ⊥) → 0 < n
-positive zero h = absurd (h refl)
-positive (suc n) h = omega arith
 
 -- before any is added the list stands for none
 pub listed-all : {list list′ : List ℕ} {n : ℕ} {y : List ℕ} → Appends list 0 list′ n y → Listed list′ n y
@@ -68,7 +63,10 @@ appends-over list n k l h low =
   where
     full : (x : List ℕ) → Listed list n x → mostTransitions ≤ length x
     full x s =
-        ⊎-elim (λ (z : n ≤ mostTransitions). omega (arith, s .exact z)) (λ (z : mostTransitions < n). omega (arith, s .more z)) (le-or-lt n mostTransitions)
+        ⊎-elim
+        (λ (z : n ≤ mostTransitions). omega (arith, s .exact z))
+        (λ (z : mostTransitions < n). omega (arith, s .more z))
+        (le-or-lt n mostTransitions)
 
 -- ---- lists that are gathered, added one by one
 

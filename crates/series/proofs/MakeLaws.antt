@@ -43,7 +43,8 @@ module _ (first second : Transducer) (j : ℕ → Bool) {r : Joined} where
         }
 
     -- nothing is refused
-    pub made-result : length (lines first second j) ≤ mostTransitions → r .outcome ≡ Made → r .table ≡ resultOf first second j → MadeOf first second j r
+    pub made-result : length (lines first second j) ≤ mostTransitions → r .outcome ≡ Made → r .table ≡ resultOf first second j
+        → MadeOf first second j r
     unfolding sizeRefusal
     made-result most o t =
         record {

@@ -1,6 +1,6 @@
--- The steps of the two machines, as they are listed, are the joint steps in the order of the result's lines: the line of each step in the list, one after
--- another, are the lines. In a row the list has the step that takes nothing on the right side last, where the lines have it first; no row has both such
--- a step and others. Assumes nothing.
+-- The steps of the two machines, as they are listed, are the joint steps in the order of the result's lines: the lines of the steps in the list, one
+-- after another, are the lines of the result. In a row the list has the step that takes nothing on the right side last, where the lines have it
+-- first; no row has both such a step and others. Assumes nothing.
 use mathlib.Core.Path.{_≡_, refl, sym, ap, _∙_}
 use mathlib.Core.Bool.{Bool, true, false, cond, _&&_}
 use mathlib.Core.List.{List, [], _∷_, _++_, map, map-append, append-nil}
@@ -46,7 +46,7 @@ left-in l m k = omega arith
 right-in : (l m : ℕ) → m ≤ noTransition → labelOf l m % sides ≡ m
 right-in l m k = omega arith
 
--- the number of a choice in a label is the choice's
+-- what l in a label stands for is l again, as a label counts it
 label-choice : (l : ℕ) → l ≤ noTransition → inLabel (choiceOf l) ≡ l
 label-choice l h =
     ⊎-elim

@@ -12,9 +12,10 @@ use Rattle.transducer.specs.Transition.{at}
 use Rattle.transducer.specs.Valid.{Valid}
 use Rattle.transducer.specs.Accepted.{acceptedOf}
 use Rattle.transducer.specs.declared.Transducer.{Transducer}
-use Rattle.transducer.proofs.Bools.{and-left, and-right, and-both, all-at}
+use Rattle.transducer.proofs.Bools.{and-left, and-right, and-both}
 use Rattle.transducer.proofs.AcceptedLaws.{accepted-valid}
 use Rattle.joints.specs.Joint.{oneCode}
+use Rattle.joints.proofs.StepLaws.{at-most-one}
 use Rattle.series.specs.Result.{pairs, lines}
 use Rattle.series.specs.Join.{sizeRefusal, refusalOf, joinable}
 
@@ -33,7 +34,7 @@ pub record Taken (first second : Transducer) (joined : ℕ → Bool) : Type 0 wh
   pub joins : joinable first second ≡ true
 
 pub not-refused : (first second : Transducer) (joined : ℕ → Bool) → refusalOf first second joined ≡ 0 → Taken first second joined
-unfolding refusalOf sizeRefusal oneCode joinable
+unfolding refusalOf sizeRefusal joinable
 not-refused first second joined e =
     let accepted = passes (acceptedOf first && acceptedOf second) _ invalid (omega arith) e in
     let codes = passes (oneCode first) _ moreThanOneCode (omega arith) (accepted .1) in
@@ -42,7 +43,7 @@ not-refused first second joined e =
     record {
       valid = accepted-valid first (and-left (acceptedOf first) (acceptedOf second) (accepted .0));
       valid′ = accepted-valid second (and-right (acceptedOf first) (acceptedOf second) (accepted .0));
-      one = λ l h. leb-true _ _ (all-at (first .count) (λ l. leb (at first l .count) 1) (codes .0) l h);
+      one = at-most-one first (codes .0);
       few-pairs = leb-true _ _ (states .0);
       few-lines = leb-true _ _ (transitions .0);
       joins = and-both (accepted .0) (codes .0);

@@ -21,10 +21,10 @@ use Rattle.transducer.proofs.LineLaws.{made-lines}
 use Rattle.product.specs.Numbers.{mostPairs, pairOf, firstOf, secondOf, PairIn}
 use Rattle.product.proofs.LabelLaws.{pair-first, pair-second}
 use Rattle.joints.specs.Joint.{after, jointStep}
+use Rattle.joints.proofs.JointLaws.{side-low, side-below, Joint, joint-kind, kind-joint, joint-sides}
 use Rattle.series.specs.Result.{stateOf, pairs, bothHave, bothIn, entered, leads, stepLine, rowLines, lines, pairTransducer}
 use Rattle.series.proofs.GatherLaws.{gather-of, gather-at, picked-of, picked-at, flag-at, flag-of}
 use Rattle.series.proofs.StateLaws.{PairAt, state-less, pair-listed, pair-at}
-use Rattle.series.proofs.StepLaws.{Side, side-low, side-state, Joint, joint-facts, facts-joint, joint-sides}
 
 -- ---- the lines
 
@@ -32,7 +32,7 @@ module _ (first second : Transducer) (joined : ℕ → Bool) where
   -- the step a, b leads from the joined pair v to a joined pair
   pub record Leads (v a b : ℕ) : Type 0 where
     pub from-joined : joined v ≡ true
-    pub joint : Joint first second (firstOf v) (secondOf v) a b
+    pub joint : Joint first second (firstOf v) (secondOf v) (after first (firstOf v) a) (after second (secondOf v) b) a b
     pub to-joined : joined (entered first second v a b) ≡ true
 
   -- what its test says
@@ -43,13 +43,20 @@ module _ (first second : Transducer) (joined : ℕ → Bool) where
       let h = and-left (joined v && test) (joined (entered first second v a b)) e in
       record {
         from-joined = and-left (joined v) test h;
-        joint = joint-facts first second _ _ a b (and-right (joined v) test h);
+        joint = joint-kind _ _ a b (and-right (joined v) test h);
         to-joined = and-right (joined v && test) (joined (entered first second v a b)) e;
       }
 
   facts-leads : (v a b : ℕ) → Leads v a b → leads first second joined v a b ≡ true
   unfolding leads
-  facts-leads v a b h = and-both (and-both (h .from-joined) (facts-joint first second (h .joint))) (h .to-joined)
+  facts-leads v a b h = and-both (and-both (h .from-joined) (kind-joint (h .joint))) (h .to-joined)
+
+  -- the two states of the pair that it enters
+  pub leads-states : (v a b : ℕ) → Valid second → Leads v a b
+      → (firstOf (entered first second v a b) ≡ after first (firstOf v) a) × (secondOf (entered first second v a b) ≡ after second (secondOf v) b)
+  leads-states v a b valid h =
+      let low = side-below valid (valid .few-states) (joint-sides (h .joint) .1) (omega arith) in
+      (pair-first (after first (firstOf v) a) _ low, pair-second (after first (firstOf v) a) _ low)
 
   -- the step that became the line w
   pub record StepOf (w : Transition) : Type 0 where
@@ -74,7 +81,7 @@ module _ (first second : Transducer) (joined : ℕ → Bool) where
   pub step-line : (v a b : ℕ) → v < mostPairs → Leads v a b → Among (stepLine first second joined v a b) (lines first second joined)
   unfolding lines rowLines
   step-line v a b low h =
-      let sides = joint-sides first second (h .joint) in
+      let sides = joint-sides (h .joint) in
       gather-of mostPairs _ low
       (gather-of (suc (first .count)) _ (side-low (sides .0))
       (gather-of (suc (second .count)) _ (side-low (sides .1)) (picked-of (facts-leads v a b h))))
@@ -83,14 +90,6 @@ module _ (first second : Transducer) (joined : ℕ → Bool) where
   pub pair-lines : linesOf (pairTransducer first second joined) ≡ lines first second joined
   unfolding pairTransducer
   pair-lines = made-lines _ _ _ (lines first second joined)
-
--- the two states of the pair that a step enters
-module _ (first : Transducer) {second : Transducer} (v a : ℕ) {b : ℕ} (valid : Valid second) (s : Side second (secondOf v) b) where
-  pub entered-first : firstOf (entered first second v a b) ≡ after first (firstOf v) a
-  entered-first = pair-first _ (after second (secondOf v) b) (side-state valid s (omega arith))
-
-  pub entered-second : secondOf (entered first second v a b) ≡ after second (secondOf v) b
-  entered-second = pair-second (after first (firstOf v) a) _ (side-state valid s (omega arith))
 
 -- ---- the sets
 

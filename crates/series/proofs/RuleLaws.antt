@@ -1,71 +1,32 @@
--- The transducer of pairs keeps the rules, and its arrays have their lengths; so does the blank transducer, which relates nothing. Assumes nothing.
-use mathlib.Core.Path.{_≡_, refl, sym, _∙_}
-use mathlib.Core.Bool.{Bool, true≢false}
-use mathlib.Core.List.{[], List·Memᴰ·not-nil}
+-- The transducer of pairs keeps the rules, and its arrays have their lengths. Assumes nothing.
+use mathlib.Core.Path.{_≡_, refl}
+use mathlib.Core.Bool.{Bool}
 use Prim.Native.Nat.{ℕ, _≤_, _<_}
 use native.Mathlib.Omega.{arith}
 use lib.ListN.{length, length-replicate}
 use Rattle.transducer.specs.Limits.{mostStates, mostTransitions, mostOutputs}
-use Rattle.transducer.specs.StateSet.{In, noStates}
-use Rattle.transducer.specs.Transition.{InputWord, OutputWord}
-use Rattle.transducer.specs.Blank.{clearTransition, blankTransducer}
+use Rattle.transducer.specs.Blank.{clearTransition}
 use Rattle.transducer.specs.Valid.{Used, Valid, Shaped, allBelow, usedOf, codesOf, codeOf}
-use Rattle.transducer.specs.Lines.{transducerOf}
-use Rattle.transducer.specs.Paths.{Relates}
 use Rattle.transducer.specs.declared.OutputCode.{OutputCode}
 use Rattle.transducer.specs.declared.Transition.{Transition}
 use Rattle.transducer.specs.declared.Transducer.{Transducer}
 use Rattle.transducer.proofs.Facts.{used-facts}
-use Rattle.transducer.proofs.StateSetLaws.{has-none}
 use Rattle.transducer.proofs.LineLaws.{made-valid, made-shaped}
 use Rattle.product.specs.Numbers.{mostPairs, firstOf, secondOf}
 use Rattle.joints.specs.Joint.{after}
+use Rattle.joints.proofs.JointLaws.{Side, rests, takes, side-below, joint-sides}
 use Rattle.series.specs.Result.{pairs, taken, entered, lines, pairTransducer}
 use Rattle.series.proofs.StateLaws.{state-less}
-use Rattle.series.proofs.StepLaws.{Side, rests, takes, side-state, joint-sides}
 use Rattle.series.proofs.ResultLaws.{StepOf, line-step, set-below, set-long}
-
--- ---- the blank transducer
-
--- it is made of no lines
-blank-made : blankTransducer ≡ transducerOf 1 noStates noStates []
-unfolding blankTransducer transducerOf
-blank-made = refl
-
-none-in : (q : ℕ) → ¬ (In noStates q)
-none-in q h = true≢false (sym h ∙ has-none q)
-
--- without a start state it relates nothing
-pub blank-relates : {x : InputWord} {z : OutputWord} → ¬ (Relates blankTransducer x z)
-unfolding blankTransducer
-blank-relates r = none-in _ (r .accepting .starts)
-
-pub blank-valid : Valid blankTransducer
-blank-valid =
-    rw blank-made
-    (made-valid 1 noStates noStates [] .1
-    (record {
-      some-state = omega arith;
-      few-states = omega arith;
-      start-state = λ q h. absurd (none-in q h);
-      final-state = λ q h. absurd (none-in q h);
-      few-lines = omega arith;
-      used = λ v m. absurd (List·Memᴰ·not-nil m);
-    }))
-
-pub blank-shaped : Shaped blankTransducer
-blank-shaped = rw blank-made (made-shaped 1 noStates noStates [] refl refl (omega arith) (λ v m. absurd (List·Memᴰ·not-nil m)))
-
--- ---- the transducer of pairs
 
 -- what a side takes keeps the rules, among some states
 record Kept (v : Transition) : Type 0 where
   n : ℕ
   used : Used n v
 
-side-kept : {t : Transducer} {p a : ℕ} → Valid t → Side t p a → Kept (taken t a)
+side-kept : {t : Transducer} {p p′ a : ℕ} → Valid t → Side t p p′ a → Kept (taken t a)
 unfolding usedOf codesOf codeOf allBelow
-side-kept v rests = record { n = 1; used = used-facts 1 clearTransition refl refl }
+side-kept v (rests e) = record { n = 1; used = used-facts 1 clearTransition refl refl }
 side-kept v (takes {l = l} k) = record { n = _; used = v .used l (k .used) }
 
 -- so does a line that reads what the one reads and writes what the other writes
@@ -83,8 +44,8 @@ both-used from to f t u u′ =
     }
 
 -- and what a side takes has an array of the right length
-side-long : {t : Transducer} {p a : ℕ} → Valid t → Shaped t → Side t p a → length (taken t a .output) ≡ mostOutputs
-side-long v s rests = length-replicate {A = OutputCode} mostOutputs (record { 0 = 0 })
+side-long : {t : Transducer} {p p′ a : ℕ} → Valid t → Shaped t → Side t p p′ a → length (taken t a .output) ≡ mostOutputs
+side-long v s (rests e) = length-replicate {A = OutputCode} mostOutputs (record { 0 = 0 })
 side-long v s (takes {l = l} k) = s .outputs l (omega (arith, k .used, v .few-transitions))
 
 module _ (first second : Transducer) (joined : ℕ → Bool) (few : length (pairs joined) ≤ mostStates)
@@ -105,10 +66,10 @@ module _ (first second : Transducer) (joined : ℕ → Bool) (few : length (pair
     where
       used : {w : Transition} → StepOf first second joined w → Used (length (pairs joined)) w
       used s =
-          let sides = joint-sides first second (s .steps .joint) in
+          let sides = joint-sides (s .steps .joint) in
           let low = s .low in
-          let p-low : after first (firstOf (s .v)) (s .a) < mostStates = side-state valid (sides .0) (omega arith) in
-          let q-low : after second (secondOf (s .v)) (s .b) < mostStates = side-state valid′ (sides .1) (omega arith) in
+          let p-low : after first (firstOf (s .v)) (s .a) < mostStates = side-below valid (valid .few-states) (sides .0) (omega arith) in
+          let q-low : after second (secondOf (s .v)) (s .b) < mostStates = side-below valid′ (valid′ .few-states) (sides .1) (omega arith) in
           rw (s .is)
           (both-used _ _ (state-less joined (s .v) mostPairs (s .steps .from-joined) low)
           (state-less joined (entered first second (s .v) (s .a) (s .b)) mostPairs (s .steps .to-joined) (omega arith))
@@ -121,4 +82,4 @@ module _ (first second : Transducer) (joined : ℕ → Bool) (few : length (pair
       made-shaped _ _ _ (lines first second joined) (set-long joined (first .starts) (second .starts) few)
       (set-long joined (first .finals) (second .finals) few) few-lines
       (λ w m. let s = line-step first second joined m in
-      rw (s .is) (side-long valid′ shaped (joint-sides first second (s .steps .joint) .1)))
+      rw (s .is) (side-long valid′ shaped (joint-sides (s .steps .joint) .1)))

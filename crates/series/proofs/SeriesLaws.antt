@@ -16,6 +16,7 @@ use Rattle.transducer.specs.Paths.{Relates, Functional}
 use Rattle.transducer.specs.Useful.{UsefulState}
 use Rattle.transducer.specs.declared.Transducer.{Transducer}
 use Rattle.transducer.proofs.Bools.{same-flag}
+use Rattle.transducer.proofs.BlankLaws.{blank-relates, blank-valid, blank-shaped}
 use Rattle.product.specs.Numbers.{firstOf, secondOf}
 use Rattle.joints.specs.Joint.{JoinedPair}
 use Rattle.series.specs.Result.{pairs, pairTransducer, resultOf}
@@ -25,7 +26,7 @@ use Rattle.series.specs.declared.Outcome.{Outcome}
 use Rattle.series.specs.declared.Outcome.the-variants.{Made, Invalid, MoreThanOneCode, ManyPairs, ManyTransitions}
 use Rattle.series.specs.declared.Joined.{Joined}
 use Rattle.series.proofs.ResultLaws.{set-below}
-use Rattle.series.proofs.RuleLaws.{blank-relates, blank-valid, blank-shaped, pairs-valid, pairs-shaped}
+use Rattle.series.proofs.RuleLaws.{pairs-valid, pairs-shaped}
 use Rattle.series.proofs.RefusalLaws.{Taken, not-refused, refused-anyway}
 use Rattle.series.proofs.Composition.{related-composes, composes-related, pair-useful}
 

@@ -1,9 +1,9 @@
 -- Laws of the table as it is made: an array that is clear at first, the lines of the listed steps, and the whole. Assumes nothing.
 use mathlib.Core.Path.{_≡_, refl, sym, ap, _∙_}
 use mathlib.Core.Bool.{Bool, true, false, cond}
-use mathlib.Core.List.{List, [], _∷_, _++_, map, List·Memᴰ, List·Memᴰ·head, List·Memᴰ·tail, List·Memᴰ·not-nil, List·Memᴰ·append-cases}
+use mathlib.Core.List.{List, [], _++_, List·Memᴰ, List·Memᴰ·not-nil, List·Memᴰ·append-cases}
 use mathlib.Core.Logic.{⊎-elim}
-use Prim.Native.Nat.{ℕ, zero, suc, _+_, _-_, _/_, _%_, _≤_, _<_}
+use Prim.Native.Nat.{ℕ, _+_, _-_, _/_, _%_, _≤_, _<_}
 use native.Mathlib.Omega.{arith}
 use lib.ListN.{length, getD, replicate, length-append, length-replicate, getD-replicate, List·getD-append}
 use lib.Seq.{getD-append-add, ext-getD}
@@ -14,14 +14,15 @@ use Rattle.transducer.specs.Lines.{transducerOf}
 use Rattle.transducer.specs.declared.StateSet.{StateSet}
 use Rattle.transducer.specs.declared.Transition.{Transition}
 use Rattle.transducer.specs.declared.Transducer.{Transducer}
-use Rattle.product.specs.Numbers.{mostPairs, noTransition, sides, labelOf}
 use Rattle.transducer.proofs.Bools.{le-or-lt, and-left}
+use Rattle.transducer.proofs.LineLaws.{place-among}
+use Rattle.product.specs.Numbers.{mostPairs, noTransition, sides, labelOf}
 use Rattle.product.specs.Steps.{pastLast, targetOf}
 use Rattle.product.proofs.TargetLaws.{target-low}
 use Rattle.joints.proofs.StepLaws.{Coupled}
 use Rattle.series.specs.Result.{stateOf, pairs, bothIn, lines, pairTransducer}
 use Rattle.series.specs.Parts.{rowOf, rowsOf, stepAt, stepsOf, Listed, Numbered, takes, lineOf, lineBy, Placed, Small, Written}
-use Rattle.series.proofs.GatherLaws.{gather-at, picked-at}
+use Rattle.series.proofs.GatherLaws.{gather-at, picked-at, getD-mapped}
 use Rattle.series.proofs.StateLaws.{state-order}
 use Rattle.series.proofs.TestLaws.{test-exactly}
 use Rattle.series.proofs.OrderLaws.{pair-in, label-in, steps-lines, many-steps}
@@ -36,36 +37,25 @@ pub step-target : (left right : List ℕ) (v k : ℕ) {to l m : ℕ} → to ≡ 
     → to ≡ targetOf left right v k
 step-target left right v k e p q = e ∙ ap (targetOf left right v) (omega arith)
 
--- a line by other names of the pair that its step enters and of what its sides take
+-- a line stays the same where other, equal numbers stand for the pair that its step enters and for what its sides take
 pub line-again : (states : List ℕ) (xs ys : List Transition) (v : ℕ) {r : Transition} {to to′ l l′ m m′ : ℕ}
     → r ≡ lineOf (getD states v 0) (getD states to 0) (getD xs l outside) (getD ys m outside) → to ≡ to′ → l ≡ l′ → m ≡ m′
     → r ≡ lineOf (getD states v 0) (getD states to′ 0) (getD xs l′ outside) (getD ys m′ outside)
 line-again states xs ys v e p q o = rw (← p, ← q, ← o) e
 
--- and by the transitions that they are
+-- and where what the sides take stands for it
 pub line-takes : (first second : Transducer) (states : List ℕ) (xs ys : List Transition) (v to l m : ℕ) → l ≤ noTransition → m ≤ noTransition
     → ((l : ℕ) → l ≤ noTransition → getD xs l outside ≡ takes first l) → ((m : ℕ) → m ≤ noTransition → getD ys m outside ≡ takes second m)
     → lineOf (getD states v 0) (getD states to 0) (getD xs l outside) (getD ys m outside)
     ≡ lineOf (getD states v 0) (getD states to 0) (takes first l) (takes second m)
 line-takes first second states xs ys v to l m h k f g = rw (f l h, g m k)
 
--- ---- what the list has
-
--- what stands at a place stands in the list
-stands : (x : List ℕ) (i : ℕ) → i < length x → List·Memᴰ (getD x i 0) x
-stands [] i h = absurd (omega arith)
-stands (k ∷ x) zero h = List·Memᴰ·head refl
-stands (k ∷ x) (suc i) h = List·Memᴰ·tail (stands x i (omega arith))
-
-getD-mapped : (f : ℕ → Transition) (x : List ℕ) (i : ℕ) → i < length x → getD (map f x) i outside ≡ f (getD x i 0)
-getD-mapped f [] i h = absurd (omega arith)
-getD-mapped f (k ∷ x) zero h = refl
-getD-mapped f (k ∷ x) (suc i) h = getD-mapped f x i (omega arith)
-
 -- the states are small where there are few
 pub numbered-small : {joined : ℕ → Bool} {states : List ℕ} {n : ℕ} → Numbered joined states n → n ≤ mostStates → Small states
 numbered-small {joined} h few =
     record { long = h .long; low = λ v low. omega (arith, h .state v low, state-order joined mostPairs v (omega arith), h .count) }
+
+-- ---- what the list has
 
 module _ {first second : Transducer} {left right : List ℕ} (c : Coupled first second left right) (joined : ℕ → Bool) where
   -- each of the steps is one of a pair
@@ -100,10 +90,11 @@ module _ {first second : Transducer} {left right : List ℕ} (c : Coupled first 
     count-is = l .exact most ∙ many-steps c joined
 
     pub placed-at : (i : ℕ) → i < k → Placed left right (getD list i 0)
-    placed-at i h = rw (l .kept i h (omega arith)) (steps-placed _ (stands (stepsOf left right joined) i (omega (arith, l .exact most))))
+    placed-at i h = rw (l .kept i h (omega arith)) (steps-placed _ (place-among (stepsOf left right joined) 0 i (omega (arith, l .exact most))))
 
     -- the array has the lines, and clear transitions behind them
-    pub array-is : {states : List ℕ} {n : ℕ} {array : List Transition} → Numbered joined states n → Written first second left right states list k array
+    pub array-is : {states : List ℕ} {n : ℕ} {array : List Transition} → Numbered joined states n
+        → Written first second left right states list k array
         → array ≡ lines first second joined ++ replicate (mostTransitions - length (lines first second joined)) clearTransition
     unfolding lineBy
     array-is {states} {array = array} h w = ext-getD outside array (own ++ rest) (w .long ∙ sym long) at-place
@@ -132,7 +123,7 @@ module _ {first second : Transducer} {left right : List ℕ} (c : Coupled first 
             w .line j b′
             ∙ rw (h .state _ (p .pair), h .state _ low) refl
             ∙ ap (lineBy first second left right (stateOf joined)) (l .kept j b′ (omega arith))
-            ∙ sym (getD-mapped (lineBy first second left right (stateOf joined)) (stepsOf left right joined) j (omega (arith, l .exact most)))
+            ∙ sym (getD-mapped (lineBy first second left right (stateOf joined)) (stepsOf left right joined) outside j (omega (arith, l .exact most)))
             ∙ ap (λ x. getD x j outside) (steps-lines c joined)
             ∙ sym (List·getD-append own rest outside j (omega (arith, count-is))))
             (le-or-lt k j)

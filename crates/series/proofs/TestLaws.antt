@@ -28,7 +28,7 @@ leaves-exactly m l q = (
   λ x. and-both (lt-ltb l (countOf m) (x .used)) (eq-eqb (fromOf m l) q (x .source)),
 )
 
--- the row in which the left side rests is always one, so no row is past it
+-- 256 is always a row, that in which the left side rests: where `low` is not past it, the least row from `low` on is not either
 pub row-within : {m : List ℕ} {q low r : ℕ} → Least (Along m q) low r → low ≤ noTransition → r ≤ noTransition
 row-within {r = r} x h =
     ⊎-elim
@@ -55,7 +55,8 @@ module _ {left right : List ℕ} (on-left : Machine left) (on-right : Machine ri
 
       go : (a b : Bool) → eqb l noTransition ≡ a → eqb m noTransition ≡ b
           → cond a (leavesIn right m q && eqb (keyOf right m) 0)
-          (leavesIn left l p && cond b (eqb (keyOf left l) 0) (leavesIn right m q && eqb (keyOf left l) (keyOf right m) && not (eqb (keyOf left l) 0))) ≡ true
+          (leavesIn left l p
+          && cond b (eqb (keyOf left l) 0) (leavesIn right m q && eqb (keyOf left l) (keyOf right m) && not (eqb (keyOf left l) 0))) ≡ true
           → Steps left right u (labelOf l m)
       go true b d d′ t =
           let is = eqb-true l noTransition d in

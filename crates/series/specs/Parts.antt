@@ -99,7 +99,8 @@ lineOf from to x y = record { from = from; to = to; input = x .input; count = y 
 -- the line of the step with the number k, where `state` gives each pair its state
 unfoldable pub lineBy : Transducer → Transducer → List ℕ → List ℕ → (ℕ → ℕ) → ℕ → Transition
 lineBy first second left right state k =
-    lineOf (state (pairIn k)) (state (targetOf left right (pairIn k) (labelIn k))) (takes first (labelIn k / sides)) (takes second (labelIn k % sides))
+    lineOf (state (pairIn k)) (state (targetOf left right (pairIn k) (labelIn k)))
+    (takes first (labelIn k / sides)) (takes second (labelIn k % sides))
 
 -- k is the number of a step of one of the pairs
 pub record Placed (left right : List ℕ) (k : ℕ) : Type 0 where

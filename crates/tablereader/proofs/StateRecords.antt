@@ -51,7 +51,7 @@ pub record Below (n : ℕ) (s : StateSet) : Type 0 where
   pub below : (q : ℕ) → In s q → q < n
   pub size : length (s .member) ≡ mostStates
 
-pub none-below : (n : ℕ) → Below n noStates
+none-below : (n : ℕ) → Below n noStates
 unfolding has
 none-below n = record { below = λ q h. absurd (never q (and-right (ltb q mostStates) (getD (replicate mostStates false) q false) h)); size = refl }
   where

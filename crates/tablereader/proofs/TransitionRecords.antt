@@ -189,7 +189,7 @@ transitions-placed (suc k) text n at rec i outcome l h few p =
     rw (← next)
     (transitions-placed k text n _ _ (i + 1) _ _ h (omega arith) (placed-more n i l p _ (omega arith) (rw (transition-values text at n) (transition-used text at n h))))
 
-pub blank-placed : (n : ℕ) → Placed n 0 (blankTransducer .transitions)
+blank-placed : (n : ℕ) → Placed n 0 (blankTransducer .transitions)
 unfolding blankTransducer
 blank-placed n =
     record {

@@ -4,7 +4,6 @@ use mathlib.Core.Path.{_≡_, refl}
 use mathlib.Core.Bool.{Bool, true, false, cond}
 use mathlib.Core.List.{List}
 use Prim.Native.Nat.{ℕ, _≤_}
-use native.Mathlib.Omega.{arith}
 use lib.Dec.{eqb}
 use Rattle.transducer.specs.Limits.{mostStates, mostTransitions}
 use Rattle.transducer.specs.Blank.{blankTransducer}
@@ -12,14 +11,15 @@ use Rattle.transducer.specs.Valid.{Valid}
 use Rattle.transducer.specs.Accepted.{acceptedOf}
 use Rattle.transducer.specs.declared.Transducer.{Transducer}
 use Rattle.transducer.proofs.AcceptedLaws.{valid-accepted}
+use Rattle.transducer.proofs.BlankLaws.{blank-valid}
 use Rattle.tablereader.specs.Outcome.{numberOf}
 use Rattle.records.specs.Letters.{letterS, letterF}
 use Rattle.tablereader.specs.Header.{headerOf}
 use Rattle.tablereader.specs.Reader.{startsOf, finalsOf, transitionsOf, outcomeWith, tableWith, readOf}
 use Rattle.tablereader.specs.declared.header.Header.{Header}
 use Rattle.tablereader.proofs.HeaderRecord.{Counted, counted}
-use Rattle.tablereader.proofs.StateRecords.{Below, none-below, states-from-below}
-use Rattle.tablereader.proofs.TransitionRecords.{Placed, blank-placed, transitions-from-placed}
+use Rattle.tablereader.proofs.StateRecords.{Below, states-from-below}
+use Rattle.tablereader.proofs.TransitionRecords.{Placed, transitions-from-placed}
 
 -- a transducer keeps the rules if its parts do
 valid : (t : Transducer) → 1 ≤ t .states → t .states ≤ mostStates → t .count ≤ mostTransitions → Below (t .states) (t .starts) → Below (t .states) (t .finals)
@@ -34,10 +34,6 @@ valid t some few most s f p =
       used = p .used;
       beyond-clear = p .clear;
     }
-
-blank-valid : Valid blankTransducer
-unfolding blankTransducer
-blank-valid = valid blankTransducer (omega arith) (omega arith) (omega arith) (none-below 1) (none-below 1) (blank-placed 1)
 
 table-valid : (text : List ℕ) (h : Header) → Counted h → Valid (tableWith text h)
 unfolding tableWith startsOf finalsOf transitionsOf

@@ -108,7 +108,7 @@ module _ (t : Transducer) (l m : ℕ) (hl : l < t .count) (hm : m < t .count) wh
 
   -- what stands at a place of it
   stands : (v : Transition) (j : ℕ) → j < t .count → getD twice j outside ≡ v → Among v twice
-  stands v j h e = Memᴰ·cast (sym e) (place-among twice j (omega (arith, length-set once m (at t l), once-long)))
+  stands v j h e = Memᴰ·cast (sym e) (place-among twice outside j (omega (arith, length-set once m (at t l), once-long)))
 
   -- each line of t stands at l, at m or where it stood
   line-stands : (k : ℕ) → k < t .count → Among (at t k) twice

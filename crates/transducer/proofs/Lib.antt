@@ -10,6 +10,7 @@ pub mod ZipLaws
 pub mod WalkLaws
 pub mod MoveLaws
 pub mod LineLaws
+pub mod BlankLaws
 pub mod WithinLaws
 pub mod AlikeLaws
 pub mod SizeLaws

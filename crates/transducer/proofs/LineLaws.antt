@@ -2,7 +2,7 @@
 -- Assumes nothing.
 use mathlib.Core.Path.{_≡_, refl, sym, ap, subst, _∙_}
 use mathlib.Core.Bool.{true}
-use mathlib.Core.List.{List, [], _∷_, _++_, List·Memᴰ·head, List·Memᴰ·tail, List·Memᴰ·eq-of-singleton, List·Memᴰ·append-cases}
+use mathlib.Core.List.{List, [], _∷_, _++_, List·Memᴰ, List·Memᴰ·head, List·Memᴰ·tail, List·Memᴰ·eq-of-singleton, List·Memᴰ·append-cases}
 use mathlib.Core.Logic.{_↔_, ⊎-elim}
 use Prim.Native.Nat.{ℕ, zero, suc, _+_, _-_, _≤_, _<_}
 use native.Mathlib.Nat.{eq-or-lt-of-le, le-of-suc-le-suc}
@@ -34,11 +34,11 @@ getD-firsts (suc n) f d j h =
     (λ (l : j < n). List·getD-append (firsts n f) (f n ∷ []) d j (omega (arith, length-firsts n f)) ∙ getD-firsts n f d j l)
     (eq-or-lt-of-le (le-of-suc-le-suc h))
 
--- what stands at a place is one of the lines
-pub place-among : (lines : List Transition) (l : ℕ) → l < length lines → Among (getD lines l outside) lines
-place-among [] l h = absurd (omega arith)
-place-among (v ∷ lines) zero h = List·Memᴰ·head refl
-place-among (v ∷ lines) (suc l) h = List·Memᴰ·tail (place-among lines l (omega arith))
+-- what stands at a place of a list stands in it
+pub place-among : {A : Type 0} (x : List A) (d : A) (i : ℕ) → i < length x → List·Memᴰ (getD x i d) x
+place-among [] d i h = absurd (omega arith)
+place-among (a ∷ x) d zero h = List·Memᴰ·head refl
+place-among (a ∷ x) d (suc i) h = List·Memᴰ·tail (place-among x d i (omega arith))
 
 -- and one of the lines stands at a place
 record Place (v : Transition) (lines : List Transition) : Type 0 where
@@ -71,7 +71,7 @@ module _ (t : Transducer) where
 
   -- so a transition is one of the lines
   pub at-among : (l : ℕ) → l < t .count → Among (at t l) (linesOf t)
-  at-among l h = rw (line-at l h) at (place-among (linesOf t) l (omega (arith, lines-long)))
+  at-among l h = rw (line-at l h) at (place-among (linesOf t) outside l (omega (arith, lines-long)))
 
 -- and one of the lines is a transition
 pub record Numbered (t : Transducer) (v : Transition) : Type 0 where
@@ -181,7 +181,7 @@ module _ (n : ℕ) (starts finals : StateSet) (lines : List Transition) where
       start-state = k .start-state;
       final-state = k .final-state;
       few-transitions = k .few-lines;
-      used = λ l h. rw (made-at n starts finals lines l h) (k .used _ (place-among lines l h));
+      used = λ l h. rw (made-at n starts finals lines l h) (k .used _ (place-among lines outside l h));
       beyond-clear = λ l h b. rw (made-clear n starts finals lines l h b) clear-clear;
     },
   )
@@ -200,7 +200,7 @@ module _ (n : ℕ) (starts finals : StateSet) (lines : List Transition) where
         outputs = λ l k.
             ⊎-elim
             (λ (h : length lines ≤ l). rw (made-clear n starts finals lines l h k) (length-replicate {A = OutputCode} mostOutputs (record { 0 = 0 })))
-            (λ (h : l < length lines). rw (made-at n starts finals lines l h) (sizes _ (place-among lines l h)))
+            (λ (h : l < length lines). rw (made-at n starts finals lines l h) (sizes _ (place-among lines outside l h)))
             (le-or-lt (length lines) l);
       }
 

@@ -38,6 +38,17 @@ pub record Labelled (t : Transducer) (p q : ℕ) (x : InputWord) (y : OutputWord
   pub read : reads t π ≡ x
   pub written : writes t π ≡ y
 
+-- where it leads from a start state to a final one, x and y are related
+pub labelled-relates : {t : Transducer} {p q : ℕ} {x : InputWord} {y : OutputWord} → In (t .starts) p → Labelled t p q x y → In (t .finals) q
+    → Relates t x y
+labelled-relates {t} {p} {q} s k f =
+    record {
+      π = k .π;
+      accepting = record { first = p; last = q; starts = s; path = k .path; ends = f };
+      read = k .read;
+      written = output-to t (k .π) q ∙ k .written;
+    }
+
 -- ---- what follows from Within
 
 module _ {t t′ : Transducer} (h : Within t t′) where
@@ -58,20 +69,8 @@ module _ {t t′ : Transducer} (h : Within t t′) where
   pub relates-within : {x : InputWord} {y : OutputWord} → Relates t x y → Relates t′ x y
   relates-within r =
       let a = r .accepting in
-      let k = path-within (a .path) in
-      record {
-        π = k .π;
-        accepting =
-            record {
-              first = a .first;
-              last = a .last;
-              starts = h .starts _ (a .starts);
-              path = k .path;
-              ends = h .finals _ (a .ends);
-            };
-        read = k .read ∙ r .read;
-        written = output-to t′ (k .π) (a .last) ∙ k .written ∙ sym (output-to t (r .π) (a .last)) ∙ r .written;
-      }
+      rw (← r .read, ← r .written, output-to t (r .π) (a .last))
+      (labelled-relates (h .starts _ (a .starts)) (path-within (a .path)) (h .finals _ (a .ends)))
 
   -- if t′ is functional, so is t
   pub functional-within : Functional t′ → Functional t

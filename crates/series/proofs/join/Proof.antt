@@ -47,32 +47,18 @@ one-code-first c = sym (c .before .one-code .ensures) ∙ not-false _ (c .if3 .l
 
 -- ---- needs
 
-accepted-requires : tie.Need-accepted-requires
-accepted-requires c κs = search needs
-
-refused-requires : tie.Need-refused-requires
-refused-requires c κs = search needs
-
 returns : tie.Need-returns
 returns c = join-invalid (rw (failed (c .before .before .accepted .ensures) (c .before .if1 .taken))) (c .refused .ensures)
-
-accepted-requires-2 : tie.Need-accepted-requires-2
-accepted-requires-2 c κs = search needs
-
-refused-requires-2 : tie.Need-refused-requires-2
-refused-requires-2 c κs = search needs
 
 returns-2 : tie.Need-returns-2
 returns-2 c =
     let t = c .before in
     let e = t .before .before in
-    join-invalid (rw (passed (e .before .accepted .ensures) (e .if1 .left), failed (t .before .accepted2 .ensures) (t .if2 .taken))) (c .refused2 .ensures)
+    join-invalid (rw (passed (e .before .accepted .ensures) (e .if1 .left), failed (t .before .accepted2 .ensures) (t .if2 .taken)))
+    (c .refused2 .ensures)
 
 one-code-requires : tie.Need-one-code-requires
 one-code-requires c κs = accepted-valid _ (accepted-first c)
-
-refused-requires-3 : tie.Need-refused-requires-3
-refused-requires-3 c κs = search needs
 
 returns-3 : tie.Need-returns-3
 returns-3 c =
@@ -80,81 +66,62 @@ returns-3 c =
     let e = t .before .before in
     join-long (accepted-first e) (accepted-second e) (sym (t .before .one-code .ensures) ∙ not-true _ (t .if3 .taken)) (c .refused3 .ensures)
 
-slice-aggregate-by-output : tie.Need-slice-aggregate-by-output
-slice-aggregate-by-output c = search needs
-
 by-output-requires : tie.Need-by-output-requires
 by-output-requires c κs = (accepted-valid _ (accepted-first (tested (c .before))), search needs)
 
-slice-aggregate-by-input : tie.Need-slice-aggregate-by-input
-slice-aggregate-by-input c = search needs
-
 by-input-requires : tie.Need-by-input-requires
 by-input-requires c κs = (accepted-valid _ (accepted-second (tested (left-built c))), search needs)
-
-slice-aggregate-joined-pairs : tie.Need-slice-aggregate-joined-pairs
-slice-aggregate-joined-pairs c = search needs
-
-slice-aggregate-joined-pairs-2 : tie.Need-slice-aggregate-joined-pairs-2
-slice-aggregate-joined-pairs-2 c = search needs
-
-slice-aggregate-joined-pairs-3 : tie.Need-slice-aggregate-joined-pairs-3
-slice-aggregate-joined-pairs-3 c = search needs
 
 joined-pairs-requires : tie.Need-joined-pairs-requires
 joined-pairs-requires c κs =
     let r = right-built c in
     let e = left-built r in
-    let t = tested e in
-    (accepted-valid _ (accepted-first t), (accepted-valid _ (accepted-second t), (one-code-first e, (r .before .before .by-output .ensures, (c .before .before .before .before .by-input .ensures, refl)))))
-
-slice-aggregate-make : tie.Need-slice-aggregate-make
-slice-aggregate-make c = search needs
-
-slice-aggregate-make-2 : tie.Need-slice-aggregate-make-2
-slice-aggregate-make-2 c = search needs
-
-slice-aggregate-make-3 : tie.Need-slice-aggregate-make-3
-slice-aggregate-make-3 c = search needs
+    let v = accepted-valid _ (accepted-first (tested e)) in
+    let v′ = accepted-valid _ (accepted-second (tested e)) in
+    let image′ = c .before .before .before .before .by-input .ensures in
+    (v, (v′, (one-code-first e, (r .before .before .by-output .ensures, (image′, refl)))))
 
 make-requires : tie.Need-make-requires
 make-requires c κs =
     let f = found c in
     let r = right-built f in
     let e = left-built r in
-    let t = tested e in
+    let v = accepted-valid _ (accepted-first (tested e)) in
+    let v′ = accepted-valid _ (accepted-second (tested e)) in
+    let image′ = f .before .before .before .before .by-input .ensures in
     let pairs = c .before .before .before .before .joined-pairs .ensures in
-    (accepted-valid _ (accepted-first t), (accepted-valid _ (accepted-second t), (one-code-first e, (r .before .before .by-output .ensures, (f .before .before .before .before .by-input .ensures, pairs .long)))))
+    (v, (v′, (one-code-first e, (r .before .before .by-output .ensures, (image′, pairs .long)))))
 
 returns-4 : tie.Need-returns-4
 returns-4 c =
     let e = left-built (right-built (found (c .before))) in
     let t = tested e in
-    join-made (accepted-first t) (accepted-second t) (one-code-first e) (c .before .before .before .before .before .joined-pairs .ensures) (c .make .ensures)
+    join-made (accepted-first t) (accepted-second t) (one-code-first e) (c .before .before .before .before .before .joined-pairs .ensures)
+    (c .make .ensures)
 
 pub join-spec : {M : Type 1} → statement M
 join-spec =
     tie.close
     (tie.spec
-    accepted-requires
-    refused-requires
+    (λ c κs. search needs)
+    (λ c κs. search needs)
     returns
-    accepted-requires-2
-    refused-requires-2
+    (λ c κs. search needs)
+    (λ c κs. search needs)
     returns-2
     one-code-requires
-    refused-requires-3
+    (λ c κs. search needs)
     returns-3
-    slice-aggregate-by-output
+    (λ c. search needs)
     by-output-requires
-    slice-aggregate-by-input
+    (λ c. search needs)
     by-input-requires
-    slice-aggregate-joined-pairs
-    slice-aggregate-joined-pairs-2
-    slice-aggregate-joined-pairs-3
+    (λ c. search needs)
+    (λ c. search needs)
+    (λ c. search needs)
     joined-pairs-requires
-    slice-aggregate-make
-    slice-aggregate-make-2
-    slice-aggregate-make-3
+    (λ c. search needs)
+    (λ c. search needs)
+    (λ c. search needs)
     make-requires
     returns-4)

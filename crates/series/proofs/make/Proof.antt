@@ -16,7 +16,7 @@ use borrow.Author.Needs.{needs}
 use Rattle.series.proofs.make.Statement.{statement}
 use Rattle.series.proofs.make.Tie as tie
 
--- ---- places: the start, after the pairs have their numbers, after the steps are listed
+-- ---- places: the start, after the pairs have their numbers, where they are few, after the steps are listed
 
 abbrev start : tie.After-number → tie.Start
 start c = c .before .before .before .before .before
@@ -50,38 +50,21 @@ many s = many-steps (coupled s) (joined-by s)
 
 -- ---- needs
 
-slice-aggregate-number : tie.Need-slice-aggregate-number
-slice-aggregate-number c = search needs
-
 number-requires : tie.Need-number-requires
 number-requires c κs = (c .before .before .before .before .pre .1 .1 .1 .1 .1, search needs)
-
-cast-if1 : tie.Need-cast-if1
-cast-if1 c = search needs
-
-refused-requires : tie.Need-refused-requires
-refused-requires c κs = search needs
 
 returns : tie.Need-returns
 returns c =
     let n = numbered (c .before .before) in
     let s = start n in
-    made-pairs (s .args .first) (s .args .second) (joined-by s) (omega (arith, n .number .ensures .count, c .before .if1 .taken)) (c .refused .ensures)
-
-slice-aggregate-list : tie.Need-slice-aggregate-list
-slice-aggregate-list c = search needs
+    made-pairs (s .args .first) (s .args .second) (joined-by s) (omega (arith, n .number .ensures .count, c .before .if1 .taken))
+    (c .refused .ensures)
 
 list-requires : tie.Need-list-requires
 list-requires c κs =
     let s = start (numbered (few c .before)) in
     let u = coupled s in
     (u .image .machine, (u .image′ .machine, (s .pre .1 .1 .1 .1 .1, length-replicate {A = ℕ} mostTransitions 0)))
-
-cast-if2 : tie.Need-cast-if2
-cast-if2 c = search needs
-
-refused-requires-2 : tie.Need-refused-requires-2
-refused-requires-2 c κs = search needs
 
 returns-2 : tie.Need-returns-2
 returns-2 c =
@@ -90,9 +73,6 @@ returns-2 c =
     let s = start n in
     made-many (s .args .first) (s .args .second) (joined-by s) (omega (arith, n .number .ensures .count, few (l .before) .if1 .left))
     (omega (arith, listed-all (l .list .ensures) .more (c .before .if2 .taken), many s)) (c .refused2 .ensures)
-
-refused-requires-3 : tie.Need-refused-requires-3
-refused-requires-3 c κs = search needs
 
 returns-3 : tie.Need-returns-3
 returns-3 c =
@@ -104,13 +84,8 @@ returns-3 c =
     let count = n .number .ensures .count in
     made-result (a .first) (a .second) (joined-by s) (omega (arith, count, few (l .before) .if1 .left))
     (omega (arith, listed-all (l .list .ensures) .exact (e .if2 .left), many s, e .if2 .left))
-    (c .refused3 .ensures .outcome) (c .refused3 .ensures .table ∙ result-blank (a .first) (a .second) (joined-by s) (sym count ∙ c .before .if3 .taken))
-
-slice-aggregate-table : tie.Need-slice-aggregate-table
-slice-aggregate-table c = search needs
-
-slice-aggregate-table-2 : tie.Need-slice-aggregate-table-2
-slice-aggregate-table-2 c = search needs
+    (c .refused3 .ensures .outcome)
+    (c .refused3 .ensures .table ∙ result-blank (a .first) (a .second) (joined-by s) (sym count ∙ c .before .if3 .taken))
 
 table-requires : tie.Need-table-requires
 table-requires c κs =
@@ -120,7 +95,10 @@ table-requires c κs =
     let s = start n in
     let u = coupled s in
     let list = l .list .ensures in
-    (u .valid, (u .valid′, (u .one-code, (u .image, (u .image′, (s .pre .1 .1 .1 .1 .1, (n .number .ensures, (few (l .before) .if1 .left, (list .long, (listed-all list, e .if2 .left))))))))))
+    let long = s .pre .1 .1 .1 .1 .1 in
+    let states = n .number .ensures in
+    let few-pairs = few (l .before) .if1 .left in
+    (u .valid, (u .valid′, (u .one-code, (u .image, (u .image′, (long, (states, (few-pairs, (list .long, (listed-all list, e .if2 .left))))))))))
 
 returns-4 : tie.Need-returns-4
 returns-4 c =
@@ -139,19 +117,19 @@ pub make-spec : {M : Type 1} → statement M
 make-spec =
     tie.close
     (tie.spec
-    slice-aggregate-number
+    (λ c. search needs)
     number-requires
-    cast-if1
-    refused-requires
+    (λ c. search needs)
+    (λ c κs. search needs)
     returns
-    slice-aggregate-list
+    (λ c. search needs)
     list-requires
-    cast-if2
-    refused-requires-2
+    (λ c. search needs)
+    (λ c κs. search needs)
     returns-2
-    refused-requires-3
+    (λ c κs. search needs)
     returns-3
-    slice-aggregate-table
-    slice-aggregate-table-2
+    (λ c. search needs)
+    (λ c. search needs)
     table-requires
     returns-4)

@@ -12,7 +12,7 @@ use Rattle.joints.specs.Found.{among}
 use Rattle.series.specs.Result.{gather}
 use Rattle.series.specs.Parts.{rowsOf, stepsOf, Appends}
 use Rattle.series.proofs.GatherLaws.{gather-none}
-use Rattle.series.proofs.ListLaws.{positive, appends-none, gather-add, gather-skip}
+use Rattle.series.proofs.ListLaws.{appends-none, gather-add, gather-skip}
 use Rattle.series.proofs.listing.list.Statement.{statement}
 use Rattle.series.proofs.listing.list.Tie as tie
 
@@ -39,7 +39,7 @@ turn c = c .before .before
 module _ (left right joined : List ℕ) (v : ℕ) where
   added : {list list′ : List ℕ} {n n′ : ℕ} → (getD joined v 0 ≡ 0 → ⊥) → Appends list n list′ n′ (rowsOf left right (among joined) v)
       → Appends list n list′ n′ (from left right joined v)
-  added some x = rw (lt-ltb 0 (getD joined v 0) (positive _ some)) x
+  added some x = rw (lt-ltb 0 (getD joined v 0) (omega (arith, some))) x
 
   none : (k : ℕ) → v ≤ k → k < v + 1 → getD joined v 0 ≡ 0 → from left right joined k ≡ []
   none k low high e = let is : k ≡ v = omega arith in rw (is, le-ltb 0 (getD joined v 0) (omega arith))
@@ -85,10 +85,16 @@ loop-again c =
     let f = from (a .left .now) (a .right .now) (a .joined .now) in
     let taken = t .loop-test .taken in
     ⊎-elim
-    (λ w. (omega (arith, taken), rw (w .5, w .6) (gather-add f (l .v) (l .inv .1) (added (a .left .now) (a .right .now) (a .joined .now) (l .v) (w .0 .taken) (w .2 .ensures)))))
     (λ w. (
       omega (arith, taken),
-      rw (w .1, w .2) (gather-skip f (l .v) (l .inv .1) _ (omega arith) (λ k low high. none (a .left .now) (a .right .now) (a .joined .now) (l .v) k low high (omega (arith, w .0 .left)))),
+      rw (w .5, w .6)
+          (gather-add f (l .v) (l .inv .1) (added (a .left .now) (a .right .now) (a .joined .now) (l .v) (w .0 .taken) (w .2 .ensures))),
+    ))
+    (λ w. (
+      omega (arith, taken),
+      rw (w .1, w .2)
+          (gather-skip f (l .v) (l .inv .1) _ (omega arith)
+          (λ k low high. none (a .left .now) (a .right .now) (a .joined .now) (l .v) k low high (omega (arith, w .0 .left)))),
     ))
     (c .if1 .came)
 

@@ -55,7 +55,8 @@ loop-holds c =
       f .most,
       f .has,
       gather-skip steps 0 (rw (← gather-none steps) (appends-none (p .1 .1 .1 .0) (p .1 .1 .1 .1 .0))) _ (f .above)
-          (λ k low high. no-step (p .0) (p .1 .0) (among (a .joined .now)) (a .v) (a .l) (p .1 .1 .1 .1 .1 .1 .most) k (omega (arith, f .most)) (f .none k low high)),
+          (λ k low high. no-step (p .0) (p .1 .0) (among (a .joined .now)) (a .v) (a .l) (p .1 .1 .1 .1 .1 .1 .most) k
+          (omega (arith, f .most)) (f .none k low high)),
     )
 
 target-requires : tie.Need-target-requires Inv-loop μ-loop
@@ -103,8 +104,8 @@ loop-again c =
     let steps = stepAt (a .left .now) (a .right .now) j (a .v) (a .l) in
     let most = p .1 .1 .1 .1 .1 .1 .most in
     let added =
-    a-step (p .0) (p .1 .0) j (a .v) (a .l) most (o .offer .ensures) (omega (arith, t .loop-test .taken)) (taken t) (o .before .before .before .target .ensures)
-    (omega (arith, o .before .before .label .ensures))
+    a-step (p .0) (p .1 .0) j (a .v) (a .l) most (o .offer .ensures) (omega (arith, t .loop-test .taken)) (taken t)
+    (o .before .before .before .target .ensures) (omega (arith, o .before .before .label .ensures))
     in (
       f .most,
       f .has,

@@ -21,7 +21,8 @@ transitions-requires c κs =
     let s = c .before .before .before .before .before in
     let u = coupled s in
     let p = s .pre .1 .1 .1 .1 .1 in
-    (u .image .machine, (u .image′ .machine, (numbered-small (p .1 .0) (p .1 .1 .0), (p .1 .1 .1 .0, (p .1 .1 .1 .1 .1, placed-at u (among (s .args .joined .now)) (p .1 .1 .1 .1 .0) (p .1 .1 .1 .1 .1))))))
+    let placed = placed-at u (among (s .args .joined .now)) (p .1 .1 .1 .1 .0) (p .1 .1 .1 .1 .1) in
+    (u .image .machine, (u .image′ .machine, (numbered-small (p .1 .0) (p .1 .1 .0), (p .1 .1 .1 .0, (p .1 .1 .1 .1 .1, placed)))))
 
 both-in-requires : tie.Need-both-in-requires
 both-in-requires c κs =
@@ -48,8 +49,8 @@ returns c =
     let p = s .pre .1 .1 .1 .1 .1 .1 in
     let listed = p .1 .1 .1 .0 in
     let few = p .1 .1 .1 .1 in
-    table-is (a .first) (a .second) j _ _ _ _ _ (p .0 .count) (c .before .before .before .both-in .ensures) (c .both-in2 .ensures) (count-is u j listed few)
-    (array-is u j listed few (p .0) (c .before .before .before .before .before .before .transitions .ensures))
+    table-is (a .first) (a .second) j _ _ _ _ _ (p .0 .count) (c .before .before .before .both-in .ensures) (c .both-in2 .ensures)
+    (count-is u j listed few) (array-is u j listed few (p .0) (c .before .before .before .before .before .before .transitions .ensures))
 
 pub table-spec : {M : Type 1} → statement M
 table-spec =

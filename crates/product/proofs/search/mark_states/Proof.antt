@@ -3,14 +3,14 @@ use native.Mathlib.Omega.{arith}
 use mathlib.Core.Path.{_≡_, sym, _∙_}
 use Prim.Native.Nat.{_-_, _≤_}
 use borrow.Author.Needs.{needs}
 use Rattle.product.specs.Numbers.{mostPairs}
-use Rattle.joints.specs.Search.{bothBelow, Marked}
-use Rattle.joints.proofs.MarkLaws.{marked-more}
-use Rattle.joints.proofs.mark_states.Statement.{statement}
-use Rattle.joints.proofs.mark_states.Tie as tie
+use Rattle.product.specs.Confined.{bothBelow, Marked}
+use Rattle.product.proofs.MarkLaws.{marked-more}
+use Rattle.product.proofs.search.mark_states.Statement.{statement}
+use Rattle.product.proofs.search.mark_states.Tie as tie
 
 abbrev Inv-loop : tie.InvT-loop
-Inv-loop n n2 numbers₀ states states2 v₀ numbers v = (v ≤ mostPairs) × Marked states states2 numbers v
+Inv-loop n n2 numbers₀ states states2 v₀ numbers v = (v ≤ mostPairs) × Marked (bothBelow states states2) numbers v
 
 abbrev μ-loop : tie.MeasureT-loop
 μ-loop n n2 numbers₀ states states2 v₀ numbers v = mostPairs - v

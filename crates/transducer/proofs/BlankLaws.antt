@@ -1,0 +1,43 @@
+-- The blank transducer keeps the rules, and relates nothing. Assumes nothing.
+use mathlib.Core.Path.{_≡_, refl, sym, _∙_}
+use mathlib.Core.Bool.{true≢false}
+use mathlib.Core.List.{[], List·Memᴰ·not-nil}
+use Prim.Native.Nat.{ℕ}
+use native.Mathlib.Omega.{arith}
+use Rattle.transducer.specs.StateSet.{In, noStates}
+use Rattle.transducer.specs.Transition.{InputWord, OutputWord}
+use Rattle.transducer.specs.Blank.{blankTransducer}
+use Rattle.transducer.specs.Valid.{Valid, Shaped}
+use Rattle.transducer.specs.Lines.{transducerOf}
+use Rattle.transducer.specs.Paths.{Relates}
+use Rattle.transducer.proofs.StateSetLaws.{has-none}
+use Rattle.transducer.proofs.LineLaws.{made-valid, made-shaped}
+
+-- it is made of no lines
+blank-made : blankTransducer ≡ transducerOf 1 noStates noStates []
+unfolding blankTransducer transducerOf
+blank-made = refl
+
+none-in : (q : ℕ) → ¬ (In noStates q)
+none-in q h = true≢false (sym h ∙ has-none q)
+
+-- without a start state it relates nothing
+pub blank-relates : {x : InputWord} {z : OutputWord} → ¬ (Relates blankTransducer x z)
+unfolding blankTransducer
+blank-relates r = none-in _ (r .accepting .starts)
+
+pub blank-valid : Valid blankTransducer
+blank-valid =
+    rw blank-made
+    (made-valid 1 noStates noStates [] .1
+    (record {
+      some-state = omega arith;
+      few-states = omega arith;
+      start-state = λ q h. absurd (none-in q h);
+      final-state = λ q h. absurd (none-in q h);
+      few-lines = omega arith;
+      used = λ v m. absurd (List·Memᴰ·not-nil m);
+    }))
+
+pub blank-shaped : Shaped blankTransducer
+blank-shaped = rw blank-made (made-shaped 1 noStates noStates [] refl refl (omega arith) (λ v m. absurd (List·Memᴰ·not-nil m)))
