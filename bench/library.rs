@@ -49,6 +49,16 @@ extern "C" {
     ) -> u32;
     fn yotselina_difference(x: *const u8, x_length: usize, y: *const u8, y_length: usize, answer: *mut u64, answer_length: usize) -> u32;
     fn yotselina_write(file: *const u8, file_length: usize, out: *mut u8, out_length: usize, answer: *mut u64, answer_length: usize) -> u32;
+    fn yotselina_join(
+        first: *const u8,
+        first_length: usize,
+        second: *const u8,
+        second_length: usize,
+        out: *mut u8,
+        out_length: usize,
+        answer: *mut u64,
+        answer_length: usize,
+    ) -> u32;
 }
 
 pub const WITNESS: usize = 2_047;
@@ -60,6 +70,7 @@ pub const FILE: usize = 13_202;
 pub const STATES: usize = 32;
 pub const PAIRS: usize = 1_024;
 pub const UNREAD: u32 = 11;
+pub const JOIN_REFUSALS: [u32; 3] = [15, 16, 17];
 
 pub fn check(file: &[u8]) -> u32 {
     unsafe { yotselina_check(file.as_ptr(), file.len()) }
@@ -143,5 +154,14 @@ impl Buffers {
 
     pub fn write(&mut self, file: &[u8]) -> u32 {
         unsafe { yotselina_write(file.as_ptr(), file.len(), self.out.as_mut_ptr(), FILE, self.answer.as_mut_ptr(), 1) }
+    }
+
+    /// The joined table's file, or the refusal.
+    pub fn join(&mut self, first: &[u8], second: &[u8]) -> Result<&[u8], u32> {
+        let (out, answer) = (self.out.as_mut_ptr(), self.answer.as_mut_ptr());
+        match unsafe { yotselina_join(first.as_ptr(), first.len(), second.as_ptr(), second.len(), out, FILE, answer, 1) } {
+            0 => Ok(&self.out[..self.answer[0] as usize]),
+            refusal => Err(refusal),
+        }
     }
 }

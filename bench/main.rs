@@ -3,6 +3,7 @@
 
 mod accepts;
 mod equations;
+mod join;
 mod library;
 mod plain;
 mod residue;
@@ -328,37 +329,117 @@ fn question_row(question: Question, repetitions: usize, buffers: &mut Buffers) -
     Row { name, facts, ours, yardstick, net: Some(net) }
 }
 
+// --- the join --------------------------------------------------------------------------------------------------------
+
+type Joins = Vec<(&'static str, Table, Table)>;
+
+fn joins() -> Vec<(&'static str, Joins)> {
+    let (wide, narrow) = (dense(32, 1), dense(32, 8));
+    let small = vec![
+        ("one state, no lines, before the same", one_state(), one_state()),
+        ("P before P", p(), p()),
+        ("2 loops before D", loops(2, 2).echo(), d([5, 6])),
+    ];
+    let full = vec![
+        ("rings of 8 and 4, 4 lines each, steps alone", ring(8, 4, 0), ring(4, 4, 8).unread()),
+        ("ring of 32, 8 lines each, before one loop", ring(32, 8, 1).echo(), loops(1, 1)),
+        ("one loop before ring of 32, 8 lines each", loops(1, 1).echo(), ring(32, 8, 8)),
+        ("250 loops before dense, 32 states, 8 inputs", loops(250, 250).echo(), narrow.clone()),
+        ("250 loops before deterministic", loops(250, 250).echo(), deterministic()),
+        ("dense, 8 states, before dense, 4 states, 240 inputs", dense(8, 240).first(240).echo(), dense(4, 240).first(240)),
+        ("16 loops before 16", loops(16, 1).echo(), loops(16, 1)),
+    ];
+    let reached = vec![
+        ("rows of 32, steps alone, 4 joined pairs", row(32), row(32).unread()),
+        ("dense, 32 states, 1 input, before the same without final state", wide.clone().echo(), wide.clone().without_finals()),
+        ("dense, 32 states, 8 inputs, before the same without final state", narrow.clone().echo(), narrow.clone().without_finals()),
+    ];
+    let refused = vec![
+        ("dense, 32 states, 1 input, before the same", wide.clone().echo(), wide),
+        ("dense, 32 states, 8 inputs, before the same", narrow.clone().echo(), narrow),
+        ("rings of 32, steps alone", ring(32, 8, 0), ring(32, 8, 8).unread()),
+        ("256 loops before 256", loops(256, 1).echo(), loops(256, 1)),
+        ("dense, 8 states, before dense, 4 states, 8 inputs", dense(8, 8).echo(), dense(4, 8)),
+    ];
+    vec![
+        ("Small tables", small),
+        ("Up to 32 joined pairs and 256 lines", full),
+        ("Up to 1,024 reached pairs, few or none joined", reached),
+        ("Refused with 16 or 17", refused),
+    ]
+}
+
+fn join_row(name: &str, tables: [Table; 2], repetitions: usize, buffers: &mut Buffers) -> Row {
+    let [first, second] = tables.map(|table| table.file());
+    let found = join::join(&first, &second);
+    let expected = found.as_deref().map_err(|&number| number);
+    let facts = match &found {
+        Ok(file) => [plain::read(file).states.to_string(), plain::read(file).transitions.len().to_string()],
+        Err(number) => ["none".to_string(), format!("refused {number}")],
+    };
+    let given = || (black_box(&first[..]), black_box(&second[..]));
+    let mut ours = || {
+        let (first, second) = given();
+        compare(name, "the library", buffers.join(first, second), expected)
+    };
+    let mut plain_rust = || {
+        let (first, second) = given();
+        compare(name, "join.rs", join::join(first, second).as_deref().map_err(|&number| number), expected)
+    };
+    let mut check = || [&first, &second].into_iter().for_each(|file| compare(name, "the library", library::check(black_box(file)), 0));
+    let mut read = || [&first, &second].into_iter().for_each(|file| drop(black_box(plain::read(black_box(file)))));
+    let calls: [&mut dyn FnMut(); 4] = [&mut ours, &mut plain_rust, &mut check, &mut read];
+    let [ours, yardstick, check, read] = measure(name, repetitions, calls);
+    let net = Net { ours: ours.smallest - check.smallest, same_method: yardstick.smallest - read.smallest };
+    Row { name: name.to_string(), facts, ours, yardstick, net: Some(net) }
+}
+
 // --- memory ----------------------------------------------------------------------------------------------------------
+
+/// What a call is given: a table's file, an input word, an output word, the file of a table behind the first.
+#[derive(Default)]
+struct Given {
+    file: Vec<u8>,
+    word: Vec<u8>,
+    output: Vec<u8>,
+    second: Vec<u8>,
+}
 
 /// The most stack that each call needs on all files and words that are measured.
 fn print_memory(buffers: &mut Buffers) {
-    let mut given: Vec<[Vec<u8>; 3]> = Vec::new();
+    let single = |table: Table| Given { file: table.file(), second: one_state().file(), ..Given::default() };
+    let mut given: Vec<Given> = Vec::new();
     for (_, rows) in translations() {
-        given.extend(rows.into_iter().map(|(_, table, word)| [table.file(), word, Vec::new()]));
+        given.extend(rows.into_iter().map(|(_, table, word)| Given { word, ..single(table) }));
     }
     for (_, tables) in verdict_tables() {
-        given.extend(tables.into_iter().map(|(_, _, table)| [table.file(), Vec::new(), Vec::new()]));
+        given.extend(tables.into_iter().map(|(_, _, table)| single(table)));
     }
     for (_, rows) in questions() {
-        given.extend(rows.into_iter().map(|row| [row.table.file(), row.input, row.output]));
+        given.extend(rows.into_iter().map(|row| Given { word: row.input, output: row.output, ..single(row.table) }));
     }
-    type Call = fn(&mut Buffers, &[u8], &[u8], &[u8]) -> u32;
-    let calls: [(&str, usize, Call); 8] = [
-        ("check", 0, |_, file, _, _| library::check(file)),
-        ("verdict", 5 * library::WITNESS + 2 * library::WITNESS_OUTPUT + 7 * 8, |buffers, file, _, _| buffers.verdict(file).0),
-        ("translate", library::OUTPUT + 8, |buffers, file, word, _| buffers.translate(file, word).err().unwrap_or(0)),
-        ("accepts", 8, |buffers, file, word, output| buffers.accepts(file, &word[..word.len().min(library::ACCEPTS_INPUT)], output).0),
-        ("useful_states", library::STATES, |buffers, file, _, _| buffers.useful_states(file)),
-        ("useful_pairs", library::PAIRS + 8, |buffers, file, _, _| buffers.useful_pairs(file)),
-        ("difference", 2 * 8, |buffers, file, word, _| buffers.difference(file, word)),
-        ("write", library::FILE + 8, |buffers, file, _, _| buffers.write(file)),
+    for (_, rows) in joins() {
+        given.extend(rows.into_iter().map(|(_, first, second)| Given { second: second.file(), ..single(first) }));
+    }
+    type Call = fn(&mut Buffers, &Given) -> u32;
+    let calls: [(&str, usize, Call); 9] = [
+        ("check", 0, |_, given| library::check(&given.file)),
+        ("verdict", 5 * library::WITNESS + 2 * library::WITNESS_OUTPUT + 7 * 8, |buffers, given| buffers.verdict(&given.file).0),
+        ("translate", library::OUTPUT + 8, |buffers, given| buffers.translate(&given.file, &given.word).err().unwrap_or(0)),
+        ("accepts", 8, |buffers, Given { file, word, output, .. }| buffers.accepts(file, &word[..word.len().min(library::ACCEPTS_INPUT)], output).0),
+        ("useful_states", library::STATES, |buffers, given| buffers.useful_states(&given.file)),
+        ("useful_pairs", library::PAIRS + 8, |buffers, given| buffers.useful_pairs(&given.file)),
+        ("difference", 2 * 8, |buffers, given| buffers.difference(&given.file, &given.word)),
+        ("write", library::FILE + 8, |buffers, given| buffers.write(&given.file)),
+        ("join", library::FILE + 8, |buffers, given| buffers.join(&given.file, &given.second).err().unwrap_or(0)),
     ];
     println!("\n## Memory of each call\n\n| call | stack, bytes | lent buffers, bytes |\n|---|---|---|");
     let stacks = calls.map(|(name, bytes, call)| {
-        let depth = |[file, word, output]: &[Vec<u8>; 3]| {
+        let depth = |given: &Given| {
             stack::depth(&mut || {
-                let returned = call(buffers, file, word, output);
-                assert!(returned == 0 || returned == library::UNREAD, "{name} refuses with {returned}");
+                let returned = call(buffers, given);
+                let expected = returned == 0 || returned == library::UNREAD || name == "join" && library::JOIN_REFUSALS.contains(&returned);
+                assert!(expected, "{name} refuses with {returned}");
             })
         };
         let stack = given.iter().map(depth).max().unwrap();
@@ -476,6 +557,11 @@ fn main() {
     for (title, rows) in questions() {
         test.groups.push((title, rows.into_iter().map(|question| question_row(question, repetitions, buffers)).collect()));
     }
+    let mut series = Section::new("Join", "yotselina_join", ["join.rs"; 2], ["states", "lines"]);
+    for (title, rows) in joins() {
+        let rows = rows.into_iter().map(|(name, first, second)| join_row(name, [first, second], repetitions, buffers));
+        series.groups.push((title, rows.collect()));
+    }
     let mut reading = Section::new("Reading", "yotselina_check", ["plain.rs", ""], ["bytes", "lines"]);
     let files = [("one state, no lines", one_state()), ("D", d([5, 6])), ("dense, 32 states, 8 inputs", dense(32, 8))];
     reading.groups.push(("The file alone", files.map(|(name, table)| reading_row(name, table, repetitions)).into()));
@@ -484,7 +570,7 @@ fn main() {
     println!("One run of `bench/run`. Repetitions: {repetitions}; {}; processors: {processors}; load at the start: {load}.\n", arguments[2]);
     println!("| library / yardstick | tables, by the library's time | smallest ratio | largest ratio | worst table by ratio |");
     println!("|---|---|---|---|---|");
-    let sections = [verdict, translation, test, reading];
+    let sections = [verdict, translation, test, series, reading];
     sections.iter().for_each(Section::print_ratios);
     println!("\n| library | longest µs | worst table by time |\n|---|---|---|");
     sections.iter().for_each(Section::print_longest);

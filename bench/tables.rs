@@ -59,6 +59,24 @@ impl Table {
         self
     }
 
+    /// Each transition writes what it reads.
+    pub fn echo(mut self) -> Table {
+        self.transitions.iter_mut().for_each(|transition| transition.output = vec![transition.input]);
+        self
+    }
+
+    /// No transition reads anything.
+    pub fn unread(mut self) -> Table {
+        self.transitions.iter_mut().for_each(|transition| transition.input = 0);
+        self
+    }
+
+    /// The first transitions only.
+    pub fn first(mut self, count: usize) -> Table {
+        self.transitions.truncate(count);
+        self
+    }
+
     /// Each transition writes its first codes only, so many at most.
     pub fn cut(mut self, length: usize) -> Table {
         self.transitions.iter_mut().for_each(|transition| transition.output.truncate(length));
@@ -87,6 +105,16 @@ pub fn d(last: [usize; 2]) -> Table {
 pub fn ring(states: usize, copies: usize, length: usize) -> Table {
     let transitions = (0..states * copies).map(|i| transition(i / copies, (i / copies + 1) % states, 1, vec![5; length])).collect();
     Table { states, starts: (0..states).collect(), finals: (0..states).collect(), transitions }
+}
+
+/// One state, start and final, and so many transitions, which read from 1 on one code more each time, as far as `inputs`.
+pub fn loops(count: usize, inputs: usize) -> Table {
+    Table { transitions: (0..count).map(|i| transition(0, 0, 1 + i % inputs, codes(i, 8))).collect(), ..one_state() }
+}
+
+/// States in a row, of which the first is the start state and the second the final one.
+pub fn row(states: usize) -> Table {
+    Table { states, starts: vec![0], finals: vec![1], transitions: (1..states).map(|i| transition(i - 1, i, 1, vec![])).collect() }
 }
 
 /// Two cycles that read the same, each transition several times, writing eight codes.

@@ -67,7 +67,7 @@ mod yotselina {
     fn done(returned: u32) -> Result<(), Refusal> {
         match returned {
             0 => Ok(()),
-            r => Err(Refusal { number: r as u16, record: (r >> 16) as u16 }),
+            r => Err(Refusal { number: r as u16, record: (r >> 16 & 0x7fff) as u16 }),
         }
     }
 

@@ -2,7 +2,8 @@
  * yotselina.h - the library that a unit links
  *
  * NAME
- *   yotselina - a transducer table: its verdict, its translations, a test of an input word and an output word, its useful states
+ *   yotselina - a transducer table: its verdict, its translations, a test of an input word and an output word, its useful states; two
+ *   tables joined to one
  *
  * SYNOPSIS
  *   #include "yotselina.h"
@@ -15,7 +16,8 @@
  *
  * RETURN VALUE
  *   0: done. Otherwise the call is refused: YOTSELINA_NUMBER(r) is the number below, YOTSELINA_RECORD(r) the record of the file in which
- *   the fault is, counted from 0 for `T` (0 where the refusal is not the file's).
+ *   the fault is, counted from 0 for `T` (0 where the refusal is not the file's). YOTSELINA_SECOND(r) is 1 if that file is the second of two
+ *   (yotselina_join), else 0.
  *
  *     1    the text ends inside a record or before it
  *     2    a wrong letter, or no byte 10 at the record's end
@@ -23,17 +25,21 @@
  *     4    a field is outside its range
  *     5    the states of `S` or `F` records do not rise
  *     6    bytes follow the last record
- *     7    a lent list is too short: for the result (yotselina_translate, yotselina_write), else below its size
+ *     7    a lent list is too short: for the result (yotselina_translate, yotselina_write, yotselina_join), else below its size
  *     9    the input word has over 255 codes (yotselina_translate)
  *     10   an input code is 0 or over 250
  *     11   no accepting path reads the input word (yotselina_translate)
  *     12   the file has over 13,202 bytes
  *     13   the input word has over 63 codes, or the output word over 127 (yotselina_accepts)
  *     14   an output code is 0 or over 250 (yotselina_accepts)
+ *     15   a line of the first table writes more than one code (yotselina_join)
+ *     16   the two tables have over 32 joined pairs of states (yotselina_join)
+ *     17   the joined table would have over 256 lines (yotselina_join)
  *     100  the list `answer` is too short
  *
- *   Checked in this order: 100; the file's refusals, from left to right: 1 to 6, then 12; then those of the call, in the order that stands
- *   with it. docs/MANUAL.md has a cure for each. (8 is for table values that were not read from a file, and does not come from here.)
+ *   Checked in this order: 100; the file's refusals, from left to right: 1 to 6, then 12, and of two files those of the first, then those of
+ *   the second; then those of the call, in the order that stands with it. docs/MANUAL.md has a cure for each. (8 is for table values that were
+ *   not read from a file, and does not come from here.)
  *
  * WHAT IS LEFT UNCHANGED
  *   A refused call changes nothing of what is lent, `answer` included. A call that is done changes only what it says that it writes: places
@@ -65,9 +71,10 @@
 extern "C" {
 #endif
 
-/* The number and the record of a refusal. */
+/* The number and the record of a refusal, and whether the record is one of the second of two files. */
 #define YOTSELINA_NUMBER(r) ((r) & 0xffff)
-#define YOTSELINA_RECORD(r) ((r) >> 16)
+#define YOTSELINA_RECORD(r) (((r) >> 16) & 0x7fff)
+#define YOTSELINA_SECOND(r) ((r) >> 31)
 
 /* The refusal of an `answer` that is too short; the other numbers are those of documents 01 and 02. */
 #define YOTSELINA_ANSWER_TOO_SHORT 100
@@ -99,6 +106,7 @@ extern "C" {
 #define YOTSELINA_PAIRS_ANSWER 1
 #define YOTSELINA_DIFFERENCE_ANSWER 2
 #define YOTSELINA_WRITE_ANSWER 1
+#define YOTSELINA_JOIN_ANSWER 1
 
 /* The kinds of a difference. */
 #define YOTSELINA_LEVEL 0
@@ -252,6 +260,34 @@ uint32_t yotselina_difference(const uint8_t *x, size_t x_length,
 uint32_t yotselina_write(const uint8_t *file, size_t file_length,
                          uint8_t *out, size_t out_length,
                          uint64_t *answer, size_t answer_length);
+
+/*
+ * yotselina_join - two tables in series as one: what the first writes, the second reads
+ *
+ *   first, first_length     the bytes of the first table's file
+ *   second, second_length   the bytes of the second table's file
+ *   out                     where the joined table's file goes; YOTSELINA_FILE places hold any
+ *   answer                  at least YOTSELINA_JOIN_ANSWER places:
+ *                           [0] how many bytes are written to out
+ *
+ * A step of two states, one of each table, is a line of the first that writes a code with a line of the second that reads that code; or, alone, a
+ * line of the first that writes nothing or a line of the second that reads nothing. The joined table's states are the joined pairs, those that
+ * steps reach from two start states and from which they reach two final states, numbered by the first's state, then the second's. Start states are
+ * those of two start states, final states those of two final states. Each step from a joined pair to a joined pair is a line: it reads what the
+ * first's line reads and writes what the second's line writes. Lines are ordered by the state that they leave, then the first's line, then the
+ * second's, none before any.
+ * The joined table relates an input word to an output word exactly if some word between them is an output of the input word by the first table and
+ * has the output word by the second. Two single tables join to a single one. If there is no joined pair, the blank table is written: one state,
+ * and nothing else.
+ *
+ * Refusals: 100; 1 to 6, 12 with the record, of the first file, then of the second (YOTSELINA_SECOND); 15, 16, 17; 7 if the joined file does not fit,
+ * never with YOTSELINA_FILE places.
+ * Stack: 65,536 bytes.
+ */
+uint32_t yotselina_join(const uint8_t *first, size_t first_length,
+                        const uint8_t *second, size_t second_length,
+                        uint8_t *out, size_t out_length,
+                        uint64_t *answer, size_t answer_length);
 
 #ifdef __cplusplus
 }

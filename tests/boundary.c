@@ -1,8 +1,9 @@
 /*
  * Calls every function of the library as C does, and prints one line for each call; tests/linked.py runs this under valgrind and compares the lines.
  *
- *     boundary TABLE INPUT OUTPUT [..]     files: a table file, and the codes of an input word and of an output word; three for each sample
- *     boundary beside                      touches a place beside a list, which valgrind must see
+ *     boundary TABLE INPUT OUTPUT SECOND [..]   files: a table file, the codes of an input word and of an output word, and a table file that is joined
+ *                                               behind the first; four for each sample
+ *     boundary beside                           touches a place beside a list, which valgrind must see
  *
  * Each list is a piece of memory of its own, of exactly the places that are lent and with no content, so that valgrind sees a place beside it that is
  * touched, a place that is used before it is written, and one that is said to be written and is not. C and C++ compile it.
@@ -64,10 +65,10 @@ static void print_answer(const uint64_t *list, uint64_t count)
         printf(" %llu", (unsigned long long)list[i]);
 }
 
-/* The line begins with the call, the sizes of what it may write, and what it returned as number and record. */
+/* The line begins with the call, the sizes of what it may write, and what it returned as number, record and whether that is of the second file. */
 static void print_returned(uint32_t returned)
 {
-    printf(": %u %u", YOTSELINA_NUMBER(returned), YOTSELINA_RECORD(returned));
+    printf(": %u %u %u", YOTSELINA_NUMBER(returned), YOTSELINA_RECORD(returned), YOTSELINA_SECOND(returned));
 }
 
 static void check(struct text table)
@@ -142,21 +143,34 @@ static void accepts(struct text table, struct text input, struct text output, si
     free(answer);
 }
 
-static size_t write_again(struct text table, size_t places, size_t answers)
+/* The table written again, or with a second one joined to it. Returns how many places were written, 0 for a refusal. */
+static size_t write_file(struct text table, const struct text *second, size_t places, size_t answers)
 {
     uint8_t *out = (uint8_t *)lend(places, 1);
     uint64_t *answer = (uint64_t *)lend(answers, 8);
-    uint32_t returned = yotselina_write(table.bytes, table.length, out, places, answer, answers);
+    uint32_t returned = second ? yotselina_join(table.bytes, table.length, second->bytes, second->length, out, places, answer, answers)
+                               : yotselina_write(table.bytes, table.length, out, places, answer, answers);
     size_t written = returned ? 0 : (size_t)answer[0];
-    printf("write %zu %zu", places, answers);
+    printf("%s %zu %zu", second ? "join" : "write", places, answers);
     print_returned(returned);
     if (!returned) {
         print_bytes(out, answer[0]);
-        print_answer(answer, YOTSELINA_WRITE_ANSWER);
+        print_answer(answer, second ? YOTSELINA_JOIN_ANSWER : YOTSELINA_WRITE_ANSWER);
     }
     printf("\n");
     free(out), free(answer);
     return written;
+}
+
+/* With enough places, exactly enough, one less, and no answer list. */
+static void write_files(struct text table, const struct text *second)
+{
+    size_t answers = second ? YOTSELINA_JOIN_ANSWER : YOTSELINA_WRITE_ANSWER;
+    size_t written = write_file(table, second, YOTSELINA_FILE, answers);
+    write_file(table, second, written, answers);
+    if (written)
+        write_file(table, second, written - 1, answers);
+    write_file(table, second, YOTSELINA_FILE, answers - 1);
 }
 
 static void useful_states(struct text table, size_t places)
@@ -198,7 +212,7 @@ static void difference(struct text x, struct text y, size_t answers)
     free(answer);
 }
 
-static void all_calls(struct text table, struct text word, struct text output)
+static void all_calls(struct text table, struct text word, struct text output, struct text second)
 {
     size_t written;
     check(table);
@@ -210,11 +224,8 @@ static void all_calls(struct text table, struct text word, struct text output)
     translate(table, word, YOTSELINA_OUTPUT, YOTSELINA_TRANSLATE_ANSWER - 1);
     accepts(table, word, output, YOTSELINA_ACCEPTS_ANSWER);
     accepts(table, word, output, YOTSELINA_ACCEPTS_ANSWER - 1);
-    written = write_again(table, YOTSELINA_FILE, YOTSELINA_WRITE_ANSWER);
-    write_again(table, written, YOTSELINA_WRITE_ANSWER);
-    if (written)
-        write_again(table, written - 1, YOTSELINA_WRITE_ANSWER);
-    write_again(table, YOTSELINA_FILE, YOTSELINA_WRITE_ANSWER - 1);
+    write_files(table, NULL);
+    write_files(table, &second);
     useful_states(table, YOTSELINA_STATES);
     useful_states(table, YOTSELINA_STATES - 1);
     useful_pairs(table, YOTSELINA_PAIRS, YOTSELINA_PAIRS_ANSWER);
@@ -227,10 +238,10 @@ static void all_calls(struct text table, struct text word, struct text output)
 /* The numbers of the header; the last is the number returned for an answer list that is too short. */
 static void print_sizes(void)
 {
-    printf("sizes: %d %d %d %d %d %d %d %d %d %d %d %d %d %d %d %d %d\n", YOTSELINA_STATES, YOTSELINA_LINES, YOTSELINA_FILE, YOTSELINA_WORD,
+    printf("sizes: %d %d %d %d %d %d %d %d %d %d %d %d %d %d %d %d %d %d\n", YOTSELINA_STATES, YOTSELINA_LINES, YOTSELINA_FILE, YOTSELINA_WORD,
            YOTSELINA_OUTPUT, YOTSELINA_ACCEPTS_INPUT, YOTSELINA_ACCEPTS_OUTPUT, YOTSELINA_WITNESS, YOTSELINA_WITNESS_OUTPUT, YOTSELINA_PAIRS,
            YOTSELINA_VERDICT_ANSWER, YOTSELINA_TRANSLATE_ANSWER, YOTSELINA_ACCEPTS_ANSWER, YOTSELINA_PAIRS_ANSWER, YOTSELINA_DIFFERENCE_ANSWER,
-           YOTSELINA_WRITE_ANSWER, YOTSELINA_ANSWER_TOO_SHORT);
+           YOTSELINA_WRITE_ANSWER, YOTSELINA_JOIN_ANSWER, YOTSELINA_ANSWER_TOO_SHORT);
 }
 
 /* Reads a place beside a list. */
@@ -247,11 +258,11 @@ int main(int count, char **names)
     if (count == 2)
         return beside();
     print_sizes();
-    for (int i = 1; i + 2 < count; i += 3) {
-        struct text table = content(names[i]), word = content(names[i + 1]), output = content(names[i + 2]);
-        printf("file %d\n", i / 3);
-        all_calls(table, word, output);
-        free(table.bytes), free(word.bytes), free(output.bytes);
+    for (int i = 1; i + 3 < count; i += 4) {
+        struct text table = content(names[i]), word = content(names[i + 1]), output = content(names[i + 2]), second = content(names[i + 3]);
+        printf("file %d\n", i / 4);
+        all_calls(table, word, output, second);
+        free(table.bytes), free(word.bytes), free(output.bytes), free(second.bytes);
     }
     return 0;
 }

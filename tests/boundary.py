@@ -6,6 +6,7 @@ from itertools import permutations
 import cases
 import damage
 import generate
+import series
 from compare import DAMAGED_KINDS, as_codes, randomness
 from library import CALLS, OF_FILES, Call, Library, build, full_sizes
 from listing import Refusal, parse_verdict
@@ -27,11 +28,13 @@ def said_yes(call):
 
 
 def check(findings, group, table, call, note=""):
-    """One call compared whole."""
+    """One call compared whole; returns whether it passed."""
     refusal, faults = faults_of(table, call)
     findings.check(f"library, {group}", faults, table.content if table else b"", f"{call}\n{note}".rstrip())
     done = "done" if call.name != "accepts" else "yes" if said_yes(call) else "no"
-    findings.count(f"library, {call.name}", f"refused {refusal.number}" if refusal else done)
+    refused = refusal and f"refused {refusal.number}{' of the second file' * refusal.second}"
+    findings.count(f"library, {call.name}", refused or done)
+    return not faults
 
 
 # --- tables ----------------------------------------------------------------------------------------------------------
@@ -49,7 +52,7 @@ def as_note(words):
 
 def exact_sizes(call):
     """The sizes below which the call must not go: the lists' sizes, for a written output or file its own length."""
-    written = {"translate": "output", "write": "out"}.get(call.name)
+    written = {"translate": "output", "write": "out", "join": "out"}.get(call.name)
     sizes = full_sizes(call.name)
     return sizes | {written: call.lent["answer"].items(1)[0]} if written and not call.returned else sizes
 
@@ -126,9 +129,10 @@ ORDERS = (
 )
 
 
-def same_refusal(findings, group, call, number, record, note=""):
+def same_refusal(findings, group, call, number, record, note="", second=False):
     """A call that must be refused so, and change nothing."""
-    faults = [] if call.refusal() == Refusal(number, record) else [f"expected {number}, record {record}; returned {call.refusal() or 'done'}"]
+    refusal = Refusal(number, record, second)
+    faults = [] if call.refusal() == refusal else [f"expected {refusal}; returned {call.refusal() or 'done'}"]
     findings.check(f"library, {group}", faults + [f"{lent} is changed" for lent in call.changed({})], call.inputs[0], f"{call}\n{note}".rstrip())
 
 
@@ -229,7 +233,7 @@ def thread_calls():
         transducer, _ = make(random)
         content, words, tests = table_file(transducer), generate.input_words(random, transducer), generate.word_tests(random, transducer)[:2]
         given = [(name, inputs) for name in OF_FILES for inputs in inputs_of(name, content, words, tests)]
-        given += [("difference", (content, content[:-1]))]
+        given += [("difference", (content, content[:-1])), ("join", tuple(map(table_file, series.two_kinds(random))))]
         calls += [Call(random, name, inputs, full_sizes(name)) for name, inputs in given * ROUNDS]
     return calls
 

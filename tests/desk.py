@@ -15,9 +15,12 @@ from pathlib import Path
 import cases
 import damage
 import generate
+import series
 from compare import as_codes, expected_verdict, randomness
-from deskanswers import faults_of_run, faults_of_translation, faults_of_useful, faults_of_word_test, faults_of_words, faults_where
+from deskanswers import (expected_join, faults_of_joined, faults_of_run, faults_of_translation, faults_of_useful, faults_of_word_test,
+                         faults_of_words, faults_where)
 from deskpicture import faults_of_picture
+from join import LIMITS, files_of
 from library import compile_c, find_archive
 from listing import Refusal, parse_verdict
 from owed import table_of
@@ -30,23 +33,24 @@ sys.path.append(str(ROOT / "cli"))
 
 from desktool.commands import COMMANDS
 from desktool.library import VARIABLE
-from desktool.refusals import LONGEST_SHOWN, WORDS
+from desktool.refusals import LONGEST_SHOWN, MORE_THAN_ONE_CODE, WORDS
 
 GROUP = "desk tool"
 DOCUMENTS = "desk tool, documents"
 TABLES = 48  # generated tables that the tool is asked about
 PICTURES = 4  # one of so many is drawn, too
 DAMAGED = 40  # damaged files
+JOINS = 60  # generated pairs of tables that it joins, of which some are damaged
 KINDS = ("random, small", "random, middle", "branches, a code changed", "loops, a code changed", "periodic output, a code changed",
          "most lines read nothing", "coprime cycles", "deterministic")
 WORD_TESTS = 2  # asked of each table
 P_WITNESS = ((1,), (0,), (1,), (5,), (6,))  # the only one of table P with at most 2u - 1 items
 NO_BYTES = ("x", "256", "-1", "+1", "1.5", "", "\u00b2", "0x1")  # what is no code at all: wrong usage
-MORE = {"draw": ("-o", "picture.dot")}  # what a subcommand needs beside the file
+MORE = {"draw": ("-o", "picture.dot"), "join": ("other", "-o", "joined")}  # what a subcommand needs beside the file
 
 
 class Tool:
-    """A copy of the tool in a folder of its own; the table that it is asked about is the file `table` there."""
+    """A copy of the tool in a folder of its own; the table that it is asked about is the file `table` there, and `other` is one that is taken."""
 
     def __init__(self, folder):
         self.folder = folder
@@ -54,6 +58,7 @@ class Tool:
         self.shared = self.archive.with_name("libyotselina.so")
         self.archive.parent.mkdir(parents=True)
         shutil.copytree(ROOT / "cli", folder / "cli")
+        (folder / "other").write_bytes(cases.P_FILE)
 
     def __call__(self, *words, stdout=subprocess.PIPE, **variables):
         """Exit status, standard output, standard error."""
@@ -69,6 +74,15 @@ class Tool:
         """The same about a table file of this content."""
         (self.folder / "table").write_bytes(content)
         return self(command, "table", *words)
+
+    def join(self, *files):
+        """The same for a join of two table files of these contents; with the file that is there afterwards, None if there is none."""
+        for name, content in zip(("first", "second"), files):
+            (self.folder / name).write_bytes(content)
+        joined = self.folder / "joined"
+        joined.unlink(missing_ok=True)
+        run = self("join", "first", "second", "-o", "joined")
+        return run, joined.read_bytes() if joined.exists() else None
 
 
 # --- where the library comes from, usage, files -------------------------------------------------------------------------
@@ -113,7 +127,9 @@ def try_usage(tool, findings):
              *(("translate", "table", code) for code in NO_BYTES),
              *(("accepts", "table", "--input", "1", "--output", code) for code in NO_BYTES), ("accepts", "table", "--input", "256"),
              ("accepts", "table", "1"), ("accepts", "--input", "1"), ("accepts", "--input", "1", "table"), ("accepts", "table", "--inputs", "1"),
-             ("draw", "table"), ("draw", "table", "-o"), ("draw", "table", "-o", "picture.xyz"), ("draw", "table", "-o", "svg"))
+             ("draw", "table"), ("draw", "table", "-o"), ("draw", "table", "-o", "picture.xyz"), ("draw", "table", "-o", "svg"),
+             ("join", "table", "-o", "joined"), ("join", "table", "table"), ("join", "table", "table", "-o"),
+             ("join", "table", "table", "table", "-o", "joined"))
     for words in wrong:
         findings.check(GROUP, faults_of_run(tool(*words), 2, "", "usage: yotselina"), b"", f"wrong usage: {' '.join(words)!r}")
     for words in ((), *((name,) for name in COMMANDS)):
@@ -134,36 +150,42 @@ def try_files(tool, findings):
             status, _, complaint = tool(command, "table", *MORE.get(command, ()), stdout=full)
         faults = faults_of_run((status, "", complaint), 2, "", "cannot write standard output: No space")
         findings.check(GROUP, faults, b"", f"{command} > /dev/full")
+    for file, says in unreadable:
+        run = tool("join", "table", file, "-o", "none.joined")
+        faults = faults_of_run(run, 2, "", f"cannot read {file}: {says}")
+        faults += faults_where((not (tool.folder / "none.joined").exists(), "something is written"))
+        findings.check(GROUP, faults, b"", f"join table {file}")
     os.symlink("/dev/full", tool.folder / "full.svg")
     for file, says in (("none/picture.svg", "No such file"), ("full.svg", "No space")):
-        run = tool("draw", "table", "-o", file)
-        findings.check(GROUP, faults_of_run(run, 2, "", f"cannot write {file}: {says}"), b"", f"draw -o {file}")
+        for words in (("draw", "table"), ("join", "table", "other")):
+            findings.check(GROUP, faults_of_run(tool(*words, "-o", file), 2, "", f"cannot write {file}: {says}"), b"", f"{words[0]} -o {file}")
     for file in (b"a <b> & \"c\" \\n", b"\xff\xfe", "\u00fc".encode(), b"own.svg"):
         (tool.folder / os.fsdecode(file)).write_bytes(cases.P_FILE)
         for command in COMMANDS:
-            more = {"draw": ("-o", "picture.svg"), "translate": ("1",), "accepts": ("--input", "1", "--output", "6")}
+            more = MORE | {"draw": ("-o", "picture.svg"), "translate": ("1",), "accepts": ("--input", "1", "--output", "6")}
             status, _, complaint = tool(command, os.fsdecode(file), *more.get(command, ()))
             faults = faults_where((status == (1 if command == "verdict" else 0), f"exit status {status}, {complaint}"))
             findings.check(GROUP, faults, b"", f"{command} {file}")
-    faults = faults_of_run(tool("draw", "own.svg", "-o", "./own.svg"), 2, "", "is the table file itself")
-    faults += faults_where(((tool.folder / "own.svg").read_bytes() == cases.P_FILE, "the table is overwritten"))
-    findings.check(GROUP, faults, b"", "draw over the table itself")
+    for words in (("draw", "own.svg"), ("join", "own.svg", "table"), ("join", "table", "own.svg"), ("join", "own.svg", "own.svg")):
+        faults = faults_of_run(tool(*words, "-o", "./own.svg"), 2, "", "is the table file itself")
+        faults += faults_where(((tool.folder / "own.svg").read_bytes() == cases.P_FILE, "the table is overwritten"))
+        findings.check(GROUP, faults, b"", f"{' '.join(words)} over the table itself")
 
 
 # --- refusals ----------------------------------------------------------------------------------------------------------
 
 
-def faults_of_refusal(run, refusal, content):
-    """In what a refusal is not said whole: number, record, the file's line and its text, cause and cure."""
+def faults_of_refusal(run, refusal, content, name="table"):
+    """In what a refusal is not said whole: number, record, the file's name and line and its text, cause and cure."""
     words = WORDS[refusal.number]
     expected = [f"refused with number {refusal.number}", f"\ncause: {words.cause}\n", f"\ncure:  {words.cure}\n"]
     if words.of_file:
         lines = content[:FILE_SEEN].removesuffix(b"\n").split(b"\n") if content else []
         text = lines[refusal.record] if refusal.record < len(lines) else b"(the file ends before this line)"
         plain = re.match(rb"[ -~]{0,%d}" % LONGEST_SHOWN, text)[0].decode("ascii")
-        expected += [f"record {refusal.record} (line {refusal.record + 1} of the file):\n    {plain}", f"table:{refusal.record + 1}: "]
+        expected += [f"record {refusal.record} (line {refusal.record + 1} of the file):\n    {plain}", f"{name}:{refusal.record + 1}: "]
     else:
-        expected += ["table: "]
+        expected += [f"{name}: "]
     return [fault for says in expected for fault in faults_of_run(run, 2, "", says)]
 
 
@@ -180,10 +202,51 @@ def try_refusals(tool, findings):
             findings.check(GROUP, faults_of_refusal(run, said, content), content, f"{command}: {name}")
             findings.count("desk tool, refusals", said.number)
         seen.add(said.number)
+    try_refused_joins(tool, findings)
     for number, word in ((9, [1] * (MAX_WORD + 1)), (10, [0]), (10, [251]), (11, [2])):
         run = tool.about(cases.P_FILE, "translate", *map(str, word))
         findings.check(GROUP, faults_of_refusal(run, Refusal(number, 0), cases.P_FILE), cases.P_FILE, as_codes(word))
         findings.count("desk tool, refusals", number)
+
+
+def faults_of_refused_join(run, made, refusal, files):
+    """In what the refusal of a join is not said whole; nothing is written. Of 15 the first line is shown that writes more than one code."""
+    names = "first", "second"
+    faults = faults_where((made is None, "something is written"))
+    if WORDS[refusal.number].of_file:
+        return faults + faults_of_refusal(run, refusal, files[refusal.second], names[refusal.second])
+    if refusal.number != MORE_THAN_ONE_CODE:
+        return faults + faults_of_refusal(run, refusal, b"", " and ".join(names))
+    lines = files[0].splitlines()
+    place = next(i for i, line in enumerate(lines, 1) if line.startswith(b"L") and int(line[13:17]) > 1)
+    shown = f"first:{place}: refused with number 15 (line {place} of the file):\n    {lines[place - 1].decode()}\ncause: "
+    return faults + faults_of_run(run, 2, "", shown) + faults_of_refusal(run, refusal, b"", f"first:{place}")
+
+
+def try_refused_joins(tool, findings):
+    """The limits of a join; either file refused, and both: the first is named."""
+    pairs = [files_of((first, second)) for _, first, second, known in LIMITS if isinstance(known, int)]
+    refused = {parse_verdict(printed).number: content for _, content, printed in cases.FILES if isinstance(parse_verdict(printed), Refusal)}
+    pairs += [pair for content in refused.values() for pair in ((content, cases.P_FILE), (cases.P_FILE, content), (content, cases.P_FILE + b" "))]
+    for files in pairs:
+        (run, made), (_, refusal) = tool.join(*files), expected_join(*files)
+        findings.check("desk tool, join", faults_of_refused_join(run, made, refusal, files), files[0], "refused")
+        findings.count("desk tool, refused joins", f"{refusal.number}{' of the second file' * refusal.second}")
+
+
+def try_joins(tool, findings):
+    """Joins of generated pairs by the reference; the pairs of tables/ that the manual names; a table with itself."""
+    for index in range(share(JOINS)):
+        random = randomness("desk, join", index)
+        files = files_of(series.KINDS[list(series.KINDS)[index % len(series.KINDS)]][1](random))
+        files = [damage.damaged(random, content)[0] if random.random() < 0.1 else content for content in files]
+        (run, made), (expected, refusal) = tool.join(*files), expected_join(*files)
+        faults = faults_of_refused_join(run, made, refusal, files) if refusal else faults_of_joined(run, made, expected)
+        findings.check("desk tool, join", faults, files[0], run[1] + run[2])
+        findings.count("desk tool, joins", f"refused {refusal.number}" if refusal else "blank" if b"S" not in expected else "joined")
+    run = tool.about(cases.P_FILE, "join", "table", "-o", "joined")
+    findings.check("desk tool, join", faults_of_joined(run, (tool.folder / "joined").read_bytes(), expected_join(cases.P_FILE, cases.P_FILE)[0]),
+                   cases.P_FILE, "a table with itself")
 
 
 def as_options(word, output):
@@ -300,11 +363,15 @@ def try_documents(tool, findings):
         said = tool.about(content, command, *more)[1].splitlines()
         shown = "".join(f"    {line}".rstrip() + "\n" for line in (" ".join(("$ cli/yotselina", command, f"tables/{name}", *more)), *said))
         findings.check(DOCUMENTS, faults_where((shown in manual, f"not shown: {shown}")), content, f"the manual's {command} in words")
+    names = [f"tables/{name}" for name in ("console", "single")]
+    said = tool("join", *(str(ROOT / name) for name in names), "-o", "series")[1]
+    shown = f"    $ cli/yotselina join {' '.join(names)} -o series\n    {said}"
+    findings.check(DOCUMENTS, faults_where((said and shown in manual, f"not shown: {shown}")), b"", "the manual's join in words")
     faults = faults_of_picture((ROOT / "docs" / "split.svg").read_bytes(), cases.P, P_WITNESS)
     findings.check(DOCUMENTS, faults, cases.P_FILE, "docs/split.svg is the picture of tables/split")
 
 
-PARTS = (try_first_use, try_usage, try_files, try_refusals, try_words, try_damaged, try_fake, try_tables, try_formats, try_documents)
+PARTS = (try_first_use, try_usage, try_files, try_refusals, try_words, try_joins, try_damaged, try_fake, try_tables, try_formats, try_documents)
 
 
 def run(findings):

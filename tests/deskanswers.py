@@ -7,7 +7,9 @@ import generate
 import reference
 from compare import expected_translation, faults_of_output
 from listing import Refusal, Verdict, faults_of_witness
+from owed import table_of
 from reference import Refused
+from transducer import FILE_SEEN, table_file
 
 
 class NotSaid(Exception):
@@ -155,3 +157,29 @@ def faults_of_word_test(run, read, word, output):
     said = f"{'yes: an' if yes else 'no: no'} accepting path reads {reads} and writes {writes}\n"
     faults = faults_of_run(run, 0 if yes else 1, said, "is split" if yes and not read.functional else "")
     return None, faults + faults_where((run[1] == said, "more than that"))
+
+
+# --- joins -------------------------------------------------------------------------------------------------------------
+
+
+def expected_join(first, second):
+    """The joined file by the reference, or None; and the refusal, or None."""
+    tables = [table_of(content[:FILE_SEEN]) for content in (first, second)]
+    for is_second, table in enumerate(tables):
+        if table.refused:
+            return None, Refusal(table.refused.number, table.refused.record, bool(is_second))
+    try:
+        return table_file(reference.join(*(table.transducer for table in tables))), None
+    except Refused as refused:
+        return None, Refusal(refused.number, refused.record)
+
+
+def faults_of_joined(run, made, expected):
+    """In what a join is wrong: the file, the counts that are said of it, and that a blank table is said to be one."""
+    states, starts, finals, lines = (int(expected[column:column + 4]) for column in range(1, 17, 4))
+    said, *more = run[1].splitlines() or [""]
+    blank = [] if starts else ["This is the blank table: second reads no output of first."]
+    return faults_of_run(run, 0, "joined: joined: ") + faults_where(
+        (made == expected, "the file is not the joined table's"),
+        (numbers(said.replace(",", "")) == (states, starts, finals, lines, len(expected)), f"said {said!r}"),
+        (more == blank, f"said {more}, expected {blank}"))

@@ -12,6 +12,7 @@ import generate
 from compare import as_codes, expected_translation, expected_verdict, faults_of_output, randomness
 from desk import KINDS
 from deskanswers import faults_of_run, faults_where, numbers
+from join import LARGEST
 from library import compile_c, find_archive
 from linked import STRICT
 from listing import Refusal
@@ -55,11 +56,12 @@ def try_sizes(_, findings):
 
 
 def run_stack(folder, *linked):
-    """stack.c with what is linked to it, run on the table with the longest translation."""
-    transducer, _, _ = cases.longest_translation()
-    (folder / "table").write_bytes(table_file(transducer))
+    """stack.c with what is linked to it, run on the table with the longest translation and on two tables with the largest join."""
+    names = [folder / name for name in ("table", "first", "second")]
+    for name, transducer in zip(names, (cases.longest_translation()[0], *LARGEST)):
+        name.write_bytes(table_file(transducer))
     complaint = compile_c("gcc", "-std=c99", *STRICT, "-o", folder / "stack", ROOT / "tests" / "stack.c", *linked)
-    return (None, "", complaint) if complaint else run_program(folder / "stack", folder / "table")
+    return (None, "", complaint) if complaint else run_program(folder / "stack", *names)
 
 
 def stack_of_lists(run):

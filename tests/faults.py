@@ -1,4 +1,4 @@
-"""Seeded faults: the library with one function made wrong in C, which the comparisons of boundary.py, wordtest.py and alike.py must find."""
+"""Seeded faults: the library with one function made wrong in C, which the comparisons of boundary.py, wordtest.py, join.py and alike.py must find."""
 
 import subprocess
 import tempfile
@@ -7,6 +7,7 @@ from pathlib import Path
 
 import alike
 import boundary
+import join
 import wordtest
 from examples import run_stack, stack_of_lists
 from findings import Findings
@@ -19,9 +20,26 @@ GROUP = "library, seeded fault is found"
 TYPES = {c_uint8: "uint8_t", c_uint16: "uint16_t", c_uint64: "uint64_t"}
 KINDS = ("random, small", "most lines read nothing", "two copies, a code changed", "branches", "coprime cycles", "deterministic")
 TABLES, MIXED = 2, 10
-HELPERS = (ROOT / "tests" / "forgets.c", ROOT / "tests" / "repeats.c")  # a wrong search, and what is asked about repeats
+# a wrong search, what is asked about repeats, and joins with a rule wrong
+HELPERS = tuple(ROOT / "tests" / name for name in ("forgets.c", "repeats.c", "misjoins.c"))
 
 NO_CODE = "not_all_codes({0}, {0}_length)"
+TAKEN = "answer_length && !yotselina_check(first, first_length) && !yotselina_check(second, second_length)"  # what misjoins.c asks for
+# the rules of a join that misjoins.c can have wrong
+MISJOINS = (
+    "silent lines step together", "no step alone of the first", "no step alone of the second", "one pair of start states",
+    "one start or final state is enough", "pairs that are not reached", "pairs that do not finish", "reached pairs are counted",
+    "numbered by the second state", "no state without a joined pair", "no steps to the same pair", "a line reads what the second reads",
+    "the second's line first", "no line comes last", "15 for joined states only", "15 after 16 and 17", "17 before 16", "33 pairs are taken",
+    "32 pairs are refused", "257 lines are taken", "256 lines are refused", "16 bits count the lines",
+)
+
+
+def misjoined(rule):
+    """The fault that a join has this rule wrong."""
+    return rule, "join", f'if ({TAKEN}) return misjoin("{rule}", first, second, out, out_length, answer);', ""
+
+
 # what is wrong, the function, what it does before and after the right one is called (r is what that returned)
 FAULTS = (
     ("single for everything", "verdict", "", "if (!r && answer[0]) for (int i = 0; i < 7; i++) if (i != 1) answer[i] = 0;"),
@@ -77,6 +95,32 @@ FAULTS = (
     ("an answer that is neither 0 nor 1", "accepts", "", "if (!r) answer[0] *= 2;"),
     ("the second place of the answer is written", "accepts", "", "if (!r && answer_length > 1) answer[1] = 0;"),
     ("the output word is changed", "accepts", "", "if (!r && output_length) ((uint8_t *)output)[output_length - 1] ^= 1;"),
+    ("the tables are exchanged", "join",
+     "const uint8_t *f = first; first = second; second = f; size_t n = first_length; first_length = second_length; second_length = n;", ""),
+    ("the length is not written", "join", "uint64_t held = answer_length ? answer[0] : 0;", "if (!r) answer[0] = held;"),
+    ("the last byte is not written", "join", "uint8_t held[13300]; if (out_length < 13300) copy(held, out, out_length);",
+     "if (!r) out[answer[0] - 1] = held[answer[0] - 1];"),
+    ("a byte behind the joined file", "join", "", "if (!r && answer[0] < out_length) out[answer[0]] ^= 1;"),
+    ("a byte beyond the list", "join", "", "if (!r) out[out_length] ^= 1;"),
+    ("a refused join writes the blank table", "join", "", 'if (r >= 15 && r <= 17 && out_length > 17) copy(out, "T   1   0   0   0\\n", 18);'),
+    ("a refused join writes what there is room for", "join", "", "if (r == 7 && out_length) out[0] = 'T';"),
+    ("a refused join answers 0", "join", "", "if (r && answer_length) answer[0] = 0;"),
+    ("a file that is joined is changed", "join", "", "if (!r) ((uint8_t *)second)[second_length - 1] ^= 1;"),
+    ("the second file is not told from the first", "join", "", "r &= 0x7fffffff;"),
+    ("the first file is taken for the second", "join", "", "if (r && YOTSELINA_NUMBER(r) < 7) r |= 0x80000000;"),
+    ("15 is said of the second file", "join", "", "if (r == 15) r |= 0x80000000;"),
+    ("the second's record is lost", "join", "", "if (r >> 31) r &= 0x8000ffff;"),
+    ("the first's record is said of the second", "join", "uint32_t f = yotselina_check(second, second_length);",
+     "if (r && YOTSELINA_NUMBER(r) < 7 && !(r >> 31) && f) r = YOTSELINA_NUMBER(r) | (f & 0x7fff0000);"),
+    ("the second file is looked at first", "join", "uint32_t f = yotselina_check(second, second_length);",
+     "if (r && YOTSELINA_NUMBER(r) < 7 && f) r = f | 0x80000000;"),
+    ("the files are looked at before the answer list", "join", "uint32_t f = yotselina_check(first, first_length);", "if (r == 100 && f) r = f;"),
+    ("7 before the second file's number", "join", "", "if (r >> 31 && !out_length) r = 7;"),
+    ("7 before 15", "join", "", "if (r == 15 && !out_length) r = 7;"),
+    ("7 before 17", "join", "", "if (r == 17 && !out_length) r = 7;"),
+    ("one place short is taken", "join", "out_length++;", ""),
+    ("13,202 places are asked for", "join", "", "if (!r && out_length < 13202) r = 7;"),
+    *map(misjoined, MISJOINS),
 )
 # functions that answer otherwise where a line stands in the file twice: the comparisons of alike.py must find them
 REPEATS = (
@@ -87,6 +131,7 @@ REPEATS = (
     ("a repeat makes a state useless", "useful_states", "", "if (!r && repeats(file, file_length)) flags[0] = 0;"),
     ("a repeat turns a yes into a no", "accepts", "", "if (!r && repeats(file, file_length)) answer[0] = 0;"),
     ("a repeat is not written", "write", "", "if (!r) answer[0] = without_repeats(out, answer[0]);"),
+    ("a repeat is not joined", "join", "", "if (!r) answer[0] = without_repeats(out, answer[0]);"),
 )
 # a function that keeps something while it runs: seen only where another thread is in it at the same time
 SHARES = ("memory that threads share", "verdict", "static volatile size_t kept; kept = file_length;", "if (!r && kept != file_length) answer[1]++;")
@@ -107,8 +152,11 @@ uint32_t yotselina_check(const uint8_t *file, size_t file_length);
 int forgets(const uint8_t *file, const uint8_t *input, size_t input_length, const uint8_t *output, size_t output_length);
 int repeats(const uint8_t *file, size_t length);
 size_t without_repeats(uint8_t *file, size_t length);
+uint32_t misjoin(const char *wrong, const uint8_t *first, const uint8_t *second, uint8_t *out, size_t out_length, uint64_t *answer);
 static inline int not_all_codes(const uint8_t *word, size_t length)
 {{ for (size_t i = 0; i < length; i++) if (!word[i] || word[i] > 250) return 1; return 0; }}
+static inline void copy(uint8_t *to, const void *from, size_t length)
+{{ for (size_t i = 0; i < length; i++) to[i] = ((const uint8_t *)from)[i]; }}
 uint32_t right({parameters});
 uint32_t yotselina_{name}({parameters}) {{ {before} uint32_t r = right({given}); {after} return r; }}
 """
@@ -142,6 +190,9 @@ def compare_some(library, name):
         for index in range(MIXED):
             wordtest.compare_table(library, found, "few codes", index)
         return found
+    if name == "join":
+        compare_joins(library, found)
+        return found
     for kind in KINDS:
         for index in range(TABLES):
             boundary.compare_table(library, found, kind, index)
@@ -151,8 +202,21 @@ def compare_some(library, name):
     return found
 
 
-def compare_alike(library, found):
+def compare_joins(library, found):
+    """A small share of the comparisons of joins."""
+    for compare in (join.compare_known, join.compare_limits, join.compare_refusals):
+        compare(library, found)
+    for index in range(MIXED):
+        join.compare_pair(library, found, "random, small", index)
+        join.compare_mixed(library, found, index)
+
+
+def compare_alike(library, found, name):
     """A small share of the comparisons of tables that are alike."""
+    if name == "join":
+        for index in range(MIXED):
+            join.compare_alike(library, found, index)
+        return
     for kind in KINDS:
         for index in range(TABLES):
             alike.compare_calls(library, found, kind, index)
@@ -165,10 +229,17 @@ def try_fault(_, findings, archive, fault):
         if fault == SHARES:
             boundary.compare_threads(library, found)
         elif fault in REPEATS:
-            compare_alike(library, found)
+            compare_alike(library, found, fault[1])
         else:
             found = compare_some(library, fault[1])
     findings.check(GROUP, [] if found.failures else [f"not found: {fault[0]} ({fault[1]})"], b"")
+
+
+def try_misjoins(_, findings, archive):
+    """misjoins.c with no rule wrong: nothing is found."""
+    with tempfile.TemporaryDirectory() as folder:
+        found = compare_some(wrong_library(Path(folder), archive, misjoined("no rule")), "join")
+    findings.check_apart("misjoins.c itself", [f"{group}: {faults}" for group, faults, _, _ in found.failures[:3]], b"")
 
 
 def try_copies(_, findings, archive):
@@ -180,4 +251,5 @@ def try_copies(_, findings, archive):
 
 def run(findings):
     archive = build()
-    spread(Library, [(try_fault, archive, fault) for fault in (*FAULTS, *REPEATS, SHARES)] + [(try_copies, archive)], findings, batch=2)
+    jobs = [(try_fault, archive, fault) for fault in (*FAULTS, *REPEATS, SHARES)] + [(try_copies, archive), (try_misjoins, archive)]
+    spread(Library, jobs, findings, batch=2)

@@ -7,7 +7,7 @@ output is, so that all accepting paths for one word have written the same beginn
 
 import math
 
-from reference import closure
+from reference import accepting_moves, closure
 from transducer import (MAX_CODE, MAX_OUTPUTS, MAX_STATES, MAX_TESTED_INPUT, MAX_TESTED_OUTPUT, MAX_TRANSITIONS, MAX_WORD, Transducer,
                         Transition)
 
@@ -435,6 +435,20 @@ def accepting_path(random, transducer, longest, longest_output=math.inf):
             break
         path.append(line)
     return None if best is None else path[:best]
+
+
+def path_reading(random, transducer, word, longest=100):
+    """The lines of a random accepting path that reads the word, at most so many: a walk along the moves of such paths. None if it finds none."""
+    leaving, first, last = accepting_moves(transducer, word)
+    if not first:
+        return None
+    node, path = random.choice(first), []
+    for _ in range(longest):
+        if not leaving[node] or node in last and random.random() < 0.3:
+            break
+        line, node = random.choice(leaving[node])
+        path.append(line)
+    return path if node in last else None
 
 
 def read_by(path):

@@ -27,6 +27,7 @@ CALLS = {
     "useful_pairs": (("file",), (("flags", c_uint8, PAIRS), ("answer", c_uint64, 1))),
     "difference": (("x", "y"), (("answer", c_uint64, 2),)),
     "write": (("file",), (("out", c_uint8, MAX_FILE), ("answer", c_uint64, 1))),
+    "join": (("first", "second"), (("out", c_uint8, MAX_FILE), ("answer", c_uint64, 1))),
 }
 OF_FILES = tuple(name for name, (read, _) in CALLS.items() if read[0] == "file")
 
@@ -34,6 +35,11 @@ OF_FILES = tuple(name for name, (read, _) in CALLS.items() if read[0] == "file")
 def full_sizes(name):
     """The places that are enough, by the list's name."""
     return {lent: size for lent, _, size in CALLS[name][1]}
+
+
+def refusal_of(returned):
+    """What the number that a call returned says; None for done."""
+    return Refusal(returned & 0xFFFF, returned >> 16 & 0x7FFF, bool(returned >> 31)) if returned else None
 
 
 # --- the archive -----------------------------------------------------------------------------------------------------
@@ -131,8 +137,7 @@ class Call:
         return self
 
     def refusal(self):
-        """What the number returned says; None for done."""
-        return Refusal(self.returned & 0xFFFF, self.returned >> 16) if self.returned else None
+        return refusal_of(self.returned)
 
     def changed(self, owed):
         """The lists that do not hold what they owe: what is owed by name at the beginning, else what they held."""

@@ -4,13 +4,16 @@ import re
 import subprocess
 import tempfile
 from pathlib import Path
+from typing import NamedTuple
 
 import cases
 import generate
+import series
 from boundary import check
 from compare import randomness
-from library import CALLS, compile_c, find_archive, full_sizes
-from listing import MAX_TRANSLATION, MAX_WITNESS, MAX_WITNESS_OUTPUT, Refusal
+from join import LIMITS, files_of
+from library import CALLS, compile_c, find_archive, full_sizes, refusal_of
+from listing import MAX_TRANSLATION, MAX_WITNESS, MAX_WITNESS_OUTPUT
 from owed import ANSWER_TOO_SHORT, table_of
 from programs import ROOT
 from tools import debian
@@ -24,7 +27,8 @@ COMPILERS = (("gcc", "-std=c99"), ("gcc", "-std=c11"), ("gcc", "-std=c17"), ("g+
 TIME_LIMIT = 120
 SIZES = (MAX_STATES, MAX_TRANSITIONS, MAX_FILE, MAX_WORD, MAX_TRANSLATION, MAX_TESTED_INPUT, MAX_TESTED_OUTPUT, MAX_WITNESS, MAX_WITNESS_OUTPUT,
          MAX_STATES * MAX_STATES,
-         *(full_sizes(name)["answer"] for name in ("verdict", "translate", "accepts", "useful_pairs", "difference", "write")), ANSWER_TOO_SHORT)
+         *(full_sizes(name)["answer"] for name in ("verdict", "translate", "accepts", "useful_pairs", "difference", "write", "join")),
+         ANSWER_TOO_SHORT)
 FOUND = 99  # exit status where valgrind has found something
 VALGRIND = ("-q", f"--error-exitcode={FOUND}", "--leak-check=full", "--errors-for-leak-kinds=all")
 TAKEN = {"memcpy", "memmove", "memset", "memcmp", "bcmp"}  # what the archive may take from C
@@ -70,6 +74,19 @@ class Items:
         return self.printed[:count]
 
 
+class Sample(NamedTuple):
+    """What the program is given: a table file, an input word, an output word, a table file to be joined behind the first."""
+
+    table: bytes
+    input: bytes = b""
+    output: bytes = b""
+    second: bytes = b""
+
+    def lent(self, name):
+        """What a call is lent to read under this name."""
+        return {"input": self.input, "y": self.input, "output": self.output, "second": self.second}.get(name, self.table)
+
+
 class Printed:
     """A line of the program, to be compared like a call."""
 
@@ -77,16 +94,16 @@ class Printed:
         head, _, rest = line.partition(":")
         self.name, *sizes = head.split()
         returned, *lists = rest.split("|")
-        number, record = map(int, returned.split())
-        self.returned = number + (record << 16)
-        self.inputs = sample[:len(CALLS[self.name][0])]
+        number, record, second = map(int, returned.split())
+        self.returned = number + (record << 16) + (second << 31)
+        self.inputs = [sample.lent(lent) for lent in CALLS[self.name][0]]
         names = [lent for lent, _, _ in CALLS[self.name][1]]
         self.sizes = dict(zip(names, map(int, sizes)))
         printed = [tuple(map(int, items.split())) for items in lists] or [()] * len(names)
         self.lent = {name: Items(items) for name, items in zip(names, printed)}
 
     def refusal(self):
-        return Refusal(self.returned & 0xFFFF, self.returned >> 16) if self.returned else None
+        return refusal_of(self.returned)
 
     def changed(self, owed):
         return [name for name, lent in self.lent.items() if lent.printed != tuple(owed.get(name, ()))]
@@ -102,27 +119,30 @@ def longest_file():
 
 
 def samples():
-    """Tables, input words and output words: those of document 01, the largest, damaged ones, and some of each sort at random."""
+    """Tables, input words and output words: those of document 01, the largest, damaged ones, and some of each sort at random; and two tables."""
     longest, word, output = cases.longest_translation()
     p_file, d_file = cases.P_FILE, table_file(cases.D)
     yield from ((p_file, b"\1\1", b"\5\6"), (d_file, b"\1\2", b"\5\6"), (table_file(cases.D_SPLIT), b"\1\2", b"\5"),
-                (table_file(cases.ONE_STATE), b"", b""), (table_file(longest), bytes(word), bytes(output)), (longest_file(), b"\1\2", b"\1\xfa"),
-                (p_file + b" ", b"\1", b"\5"), (b"", b"", b""), (cases.LONGEST[:-1], b"\1", b""), (d_file, b"\1" * 256, b"\0" * 128),
-                (d_file, b"\0", b"\0"), (d_file, b"\1", b"\0"), (p_file, b"\1" * MAX_TESTED_INPUT, b"\5\6" * 31 + b"\5"),
-                (p_file, b"\1" * (MAX_TESTED_INPUT + 1), b"\5"), (table_file(longest), b"\1", bytes(output[:MAX_TESTED_OUTPUT])),
-                (p_file, b"\1", b"\5" * (MAX_TESTED_OUTPUT + 1)))
+                (table_file(cases.ONE_STATE), b"", b"", longest_file()), (table_file(longest), bytes(word), bytes(output)),
+                (longest_file(), b"\1\2", b"\1\xfa"), (p_file + b" ", b"\1", b"\5"), (b"", b"", b""), (cases.LONGEST[:-1], b"\1", b""),
+                (d_file, b"\1" * 256, b"\0" * 128), (d_file, b"\0", b"\0"), (d_file, b"\1", b"\0"),
+                (p_file, b"\1" * MAX_TESTED_INPUT, b"\5\6" * 31 + b"\5"), (p_file, b"\1" * (MAX_TESTED_INPUT + 1), b"\5", p_file + b" "),
+                (table_file(longest), b"\1", bytes(output[:MAX_TESTED_OUTPUT])), (p_file, b"\1", b"\5" * (MAX_TESTED_OUTPUT + 1), p_file[:-1]))
     for kind in ("random, small", "most lines read nothing", "periodic output", "two copies, a code changed", "coprime cycles", "full size, random"):
         random = randomness("library, linked", kind)
         transducer, _ = generate.KINDS[kind][1](random)
         yield table_file(transducer), generate.input_words(random, transducer)[0], b""
         yield table_file(transducer), *generate.word_tests(random, transducer)[0]
+    pairs = [(first, second) for _, first, second, _ in LIMITS]
+    pairs += [make(randomness("library, linked", kind)) for kind, (_, make) in series.KINDS.items()]
+    yield from ((first, b"", b"", second) for first, second in map(files_of, pairs))
 
 
 def write_samples(folder):
     """The samples as files; returns them with their names."""
-    given, names = list(samples()), []
+    given, names = [Sample(*parts) for parts in samples()], []
     for number, parts in enumerate(given):
-        for what, content in zip(("table", "input", "output"), parts):
+        for what, content in zip(Sample._fields, parts):
             names.append(folder / f"{what}{number}")
             names[-1].write_bytes(content)
     return given, names
@@ -149,7 +169,7 @@ def run_driver(findings, command, given, title):
     findings.check(GROUP, [] if numbers == SIZES else [f"the header has {numbers}, not {SIZES}"], b"", f"{title}: sizes")
     findings.check(GROUP, [] if len(parts) == len(given) else [f"{len(parts)} of {len(given)} samples are done"], b"", title)
     for sample, part in zip(given, parts):
-        table = table_of(sample[0])
+        table = table_of(sample.table)
         for line in part.splitlines():
             call = Printed(line, sample)
             check(findings, "linked", None if call.name == "difference" else table, call, title)

@@ -17,8 +17,11 @@ class Malformed(Exception):
 
 @dataclass(frozen=True)
 class Refusal:
+    """A refusal as it is said; `second` is for calls that read two files: whether it is of the second."""
+
     number: int
     record: int
+    second: bool = False
 
 
 @dataclass(frozen=True)

@@ -7,7 +7,7 @@ import reference
 from library import CALLS, PAIRS
 from listing import Refusal, faults_of_witness
 from reference import AMBIGUOUS, Refused
-from transducer import MAX_STATES
+from transducer import MAX_STATES, table_file
 
 ANSWER_TOO_SHORT = 100
 TOO_SHORT = 7
@@ -17,7 +17,7 @@ SHOWN = ("word", "path_a", "path_b", "output_x", "output_y")
 
 
 class Table:
-    """What a file holds, with everything worked out once; `refused` is its refusal, or None."""
+    """What a file holds, with everything worked out once, when it is asked for; `refused` is its refusal, or None."""
 
     def __init__(self, content):
         self.content, self.refused, self.known = content, None, {}
@@ -25,9 +25,14 @@ class Table:
             self.transducer = reference.read(content)
         except Refused as refused:
             self.refused = refused
-            return
-        self.pairs = reference.useful_pairs(self.transducer)
-        self.functional = reference.functional(self.transducer, self.pairs)
+
+    @functools.cached_property
+    def pairs(self):
+        return reference.useful_pairs(self.transducer)
+
+    @functools.cached_property
+    def functional(self):
+        return reference.functional(self.transducer, self.pairs)
 
     def by_reference(self, question, *given):
         """What the reference answers for this table; asked once."""
@@ -116,15 +121,29 @@ def owed_difference(_table, call):
     return {"answer": (kind, common)}, []
 
 
+def owed_file(call, content):
+    """A file that must fit."""
+    if len(content) > call.sizes["out"]:
+        raise Refused(TOO_SHORT)
+    return {"out": content, "answer": (len(content),)}, []
+
+
 def owed_write(table, call):
     """The file's own bytes."""
-    if len(table.content) > call.sizes["out"]:
-        raise Refused(TOO_SHORT)
-    return {"out": table.content, "answer": (len(table.content),)}, []
+    return owed_file(call, table.content)
+
+
+def owed_join(table, call):
+    """The joined table's file. The second file is looked at after the first."""
+    second = table_of(call.inputs[1])
+    if second.refused:
+        raise Refused(second.refused.number, second.refused.record, second=True)
+    return owed_file(call, table_file(table.by_reference(reference.join, second.transducer)))
 
 
 OWED = {"check": owed_check, "verdict": owed_verdict, "translate": owed_translate, "accepts": owed_accepts,
-        "useful_states": owed_useful_states, "useful_pairs": owed_useful_pairs, "difference": owed_difference, "write": owed_write}
+        "useful_states": owed_useful_states, "useful_pairs": owed_useful_pairs, "difference": owed_difference, "write": owed_write,
+        "join": owed_join}
 
 
 # --- any call --------------------------------------------------------------------------------------------------------
@@ -146,7 +165,7 @@ def faults_of(table, call):
     try:
         refusal, (lists, faults) = None, owed(table, call)
     except Refused as refused:
-        refusal, lists, faults = Refusal(refused.number, refused.record), {}, []
+        refusal, lists, faults = Refusal(refused.number, refused.record, refused.second), {}, []
     if call.refusal() != refusal:
         faults = [f"expected {refusal or 'done'}, returned {call.refusal() or 'done'}"]
         return refusal, faults + [f"{lent} is changed" for lent in call.changed({})]

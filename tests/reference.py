@@ -2,11 +2,13 @@
 
 It shares no idea with the proved crates where another way is known: functionality is decided by residues (document 000, theorem 3.23 and
 corollary 3.24), one for each useful pair of states; a translation is the word on which all accepting paths agree, over all of them at once; a word
-test is a plain search over (codes read, codes matched, state).
+test is a plain search over (codes read, codes matched, state); a join begins with the set of all steps, of which sorting and the sets of pairs that
+they lead to leave the lines.
 """
 
 import re
 from collections import deque
+from itertools import product
 
 from transducer import (FILE_SEEN, MAX_CODE, MAX_FILE, MAX_OUTPUTS, MAX_STATES, MAX_TESTED_INPUT, MAX_TESTED_OUTPUT, MAX_TRANSITIONS, MAX_WORD,
                         WORD_SEEN, Transducer, Transition)
@@ -15,12 +17,13 @@ from transducer import (FILE_SEEN, MAX_CODE, MAX_FILE, MAX_OUTPUTS, MAX_STATES, 
 
 
 class Refused(Exception):
-    """A refusal: its number, and the number of the record in which the fault is."""
+    """A refusal: its number, the number of the record in which the fault is, and whether that is a record of the second of two files."""
 
-    def __init__(self, number, record=0):
-        super().__init__(number, record)
+    def __init__(self, number, record=0, second=False):
+        super().__init__(number, record, second)
         self.number = number
         self.record = record
+        self.second = second
 
 
 NUMBER = re.compile(rb" *(0|[1-9][0-9]*)")
@@ -330,3 +333,47 @@ def accepts(transducer, word, output):
     only_codes(word, 10)
     only_codes(output, 14)
     return relates(transducer, word, output)
+
+
+# --- two tables in series --------------------------------------------------------------------------------------------
+
+NO_LINE = -1  # what a step alone has in place of the other table's line: it stands before every line number
+BLANK = Transducer(1, (), (), ())
+
+
+def joint_steps(first, second):
+    """Every step of two tables, from any pair of states: the pair that it leaves, the first's line, the second's, the pair that it enters."""
+    lines, others = list(enumerate(first.transitions)), list(enumerate(second.transitions))
+    alone = {((line.source, q), i, NO_LINE, (line.target, q)) for i, line in lines if not line.output for q in range(second.states)}
+    alone |= {((p, other.source), NO_LINE, j, (p, other.target)) for j, other in others if not other.input for p in range(first.states)}
+    return alone | {((line.source, other.source), i, j, (line.target, other.target))
+                    for (i, line), (j, other) in product(lines, others) if line.output == (other.input,)}
+
+
+def led_to(pairs, edges):
+    """The pairs, and those that the edges lead to from them: added until there are no more."""
+    pairs = set(pairs)
+    while more := {entered for left, entered in edges if left in pairs} - pairs:
+        pairs |= more
+    return pairs
+
+
+def join(first, second):
+    """Document 02, job 3: the table of two in series; refuses by its numbers. What the first writes is the second's input."""
+    if any(len(line.output) > 1 for line in first.transitions):
+        raise Refused(15)
+    steps = joint_steps(first, second)
+    starts, finals = set(product(first.starts, second.starts)), set(product(first.finals, second.finals))
+    edges = {(left, entered) for left, _, _, entered in steps}
+    joined = led_to(starts, edges) & led_to(finals, {(entered, left) for left, entered in edges})
+    if len(joined) > MAX_STATES:
+        raise Refused(16)
+    kept = sorted(step for step in steps if joined.issuperset((step[0], step[-1])))
+    if len(kept) > MAX_TRANSITIONS:
+        raise Refused(17)
+    if not joined:
+        return BLANK
+    number = {pair: state for state, pair in enumerate(sorted(joined))}
+    lines = (Transition(number[left], number[entered], 0 if i == NO_LINE else first.transitions[i].input,
+                        () if j == NO_LINE else second.transitions[j].output) for left, i, j, entered in kept)
+    return Transducer(len(joined), *(tuple(sorted(number[pair] for pair in ends & joined)) for ends in (starts, finals)), tuple(lines))

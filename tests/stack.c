@@ -1,7 +1,7 @@
 /*
  * How much stack each call takes: it runs on a stack of its own that was painted before, and the deepest byte that lost its colour tells.
- * Prints a line for each call: its name and the bytes. The argument is the table file; its input word is as many ones as a word may have, and the
- * output word that is tested is the beginning of what that table writes.
+ * Prints a line for each call: its name and the bytes. The first argument is the table file; its input word is as many ones as a word may have, and the
+ * output word that is tested is the beginning of what that table writes. The other two are the table files that are joined.
  * Then a line for each of some differences of short and of long lists: the codes of the longer list, the kind that is answered, and the bytes.
  */
 #define _XOPEN_SOURCE 700
@@ -18,8 +18,8 @@
 #define LONG 1000000
 
 static unsigned char room[ROOM];
-static uint8_t file[YOTSELINA_FILE + 1];
-static size_t length;
+static uint8_t file[YOTSELINA_FILE + 1], first[YOTSELINA_FILE + 1], second[YOTSELINA_FILE + 1];
+static size_t length, first_length, second_length;
 static uint8_t word[YOTSELINA_WITNESS], flags[YOTSELINA_PAIRS], out[YOTSELINA_FILE];
 static uint16_t path_a[YOTSELINA_WITNESS], path_b[YOTSELINA_WITNESS];
 static uint8_t output_x[YOTSELINA_WITNESS_OUTPUT], output_y[YOTSELINA_WITNESS_OUTPUT], output[YOTSELINA_OUTPUT], input[YOTSELINA_WORD];
@@ -60,6 +60,10 @@ static void difference_of_lists(void)
     returned = yotselina_difference(list_x, length_x, list_y, length_y, answer, YOTSELINA_DIFFERENCE_ANSWER);
 }
 static void rewrite(void) { returned = yotselina_write(file, length, out, sizeof out, answer, YOTSELINA_WRITE_ANSWER); }
+static void join(void)
+{
+    returned = yotselina_join(first, first_length, second, second_length, out, sizeof out, answer, YOTSELINA_JOIN_ANSWER);
+}
 
 /* The bytes of stack that a call takes. */
 static size_t deepest(void (*call)(void))
@@ -106,15 +110,29 @@ static void measure_lists(size_t codes)
     list_y[codes - 1] = 0;
 }
 
+/* Reads a file into a list of YOTSELINA_FILE + 1 places. */
+static size_t content(const char *name, uint8_t *list)
+{
+    size_t bytes;
+    FILE *stream = fopen(name, "rb");
+    if (stream == NULL) {
+        perror(name);
+        exit(2);
+    }
+    bytes = fread(list, 1, YOTSELINA_FILE + 1, stream);
+    fclose(stream);
+    return bytes;
+}
+
 int main(int count, char **arguments)
 {
-    FILE *stream = count == 2 ? fopen(arguments[1], "rb") : NULL;
-    if (stream == NULL) {
-        fprintf(stderr, "usage: stack FILE\n");
+    if (count != 4) {
+        fprintf(stderr, "usage: stack FILE FIRST SECOND\n");
         return 2;
     }
-    length = fread(file, 1, sizeof file, stream);
-    fclose(stream);
+    length = content(arguments[1], file);
+    first_length = content(arguments[2], first);
+    second_length = content(arguments[3], second);
     memset(input, 1, sizeof input);
     itself = deepest(nothing);
     measure("yotselina_check", check);
@@ -126,6 +144,7 @@ int main(int count, char **arguments)
     measure("yotselina_useful_pairs", useful_pairs);
     measure("yotselina_difference", difference);
     measure("yotselina_write", rewrite);
+    measure("yotselina_join", join);
     measure_lists(SHORT);
     measure_lists(LONG);
     return 0;

@@ -43,7 +43,7 @@ def write_file(name, content):
 
 def check(library, options, content):
     library.check(content)
-    return DONE, [words.taken(options.file, content, table.parse(content))]
+    return DONE, [words.described(options.file, "taken", content, table.parse(content))]
 
 
 def verdict(library, options, content):
@@ -79,15 +79,27 @@ def useful(library, options, content):
     return DONE, words.useful(table.parse(content), flags, count, partners)
 
 
+def keep_apart(out, what, *files):
+    """Refuses to write over a table file that is read."""
+    if os.path.exists(out) and any(os.path.samefile(out, file) for file in files):
+        raise Failed(f"{out} is the table file itself: choose another name for the {what}")
+
+
 def draw(library, options, content):
-    if os.path.exists(options.out) and os.path.samefile(options.out, options.file):
-        raise Failed(f"{options.out} is the table file itself: choose another name for the picture")
+    keep_apart(options.out, "picture", options.file)
     count, witness = library.verdict(content)
     read = table.parse(content)
     text = picture.graph(options.file, read, library.useful_states(content), count, witness)
     write_file(options.out, picture.rendered(text, options.out.rpartition(".")[2]))
     said = "split, path A blue, path B orange" if witness else "single"
     return DONE, [f"{options.out}: drawn: {words.counted(read.states, 'state')}, {words.counted(len(read.lines), 'line')}, {said}"]
+
+
+def join(library, options, first, second):
+    keep_apart(options.out, "joined table", options.first, options.second)
+    content = library.join(first, second)
+    write_file(options.out, content)
+    return DONE, words.joined((options.first, options.second, options.out), content, table.parse(content))
 
 
 # --- their arguments -------------------------------------------------------------------------------------------------
@@ -125,11 +137,16 @@ def draw_arguments(parser):
                         help=f"where the picture goes; its name ends in .{', .'.join(picture.FORMATS)}")
 
 
+def join_arguments(parser):
+    parser.add_argument("-o", dest="out", metavar="JOINED", required=True, help="where the joined table's file goes")
+
+
 class Command(NamedTuple):
     run: Callable
     help: str
     more: str
     arguments: Callable = lambda parser: None
+    files: dict = {"file": "the table file"}  # the table files that it reads
 
 
 COMMANDS = {
@@ -145,18 +162,22 @@ COMMANDS = {
     "draw": Command(draw, "the table as a picture, a split with its two paths",
                     "Exit status: 0 drawn, 2 refused or not drawn. Needs Graphviz (Debian: graphviz) for all but .dot, the graph's text. "
                     "Path A is blue, path B orange.", draw_arguments),
+    "join": Command(join, "two tables in series as one: what the first writes, the second reads",
+                    "Exit status: 0 joined, 2 refused or not written. A line of FIRST may write one code at most.", join_arguments,
+                    {"first": "the table file whose output codes are read", "second": "the table file that reads them"}),
 }
 
 
 def make_parser():
     parser = argparse.ArgumentParser(
-        prog="yotselina", description="Asks the Yotselina library about a table file.",
+        prog="yotselina", description="Asks the Yotselina library about a table file, or joins two.",
         epilog=f"Errors go to standard error with exit status 2. {VARIABLE} or --library names the library (a shared object); else it is made "
                "from target/staticlib/libunit.a (by `rt staticlib unit`) on first use. `yotselina COMMAND --help` says more.")
     commands = parser.add_subparsers(dest="command", metavar="COMMAND", required=True)
     for name, command in COMMANDS.items():
         one = commands.add_parser(name, help=command.help, description=f"{name}: {command.help}", epilog=command.more)
-        one.add_argument("file", metavar="FILE", help="the table file")
+        for file, meaning in command.files.items():
+            one.add_argument(file, metavar=file.upper(), help=meaning)
         command.arguments(one)
         one.add_argument("--library", metavar="SO", help=f"the library as a shared object (else {VARIABLE}, else that of the build)")
     return parser
@@ -167,14 +188,15 @@ def make_parser():
 
 def run(options):
     """Runs the subcommand. What it cannot do and what the library refuses is said on standard error, with exit status 2."""
-    content = b""
+    command, contents = COMMANDS[options.command], []
+    names = [getattr(options, file) for file in command.files]
     try:
-        content = read_file(options.file)
-        return COMMANDS[options.command].run(Library(options.library), options, content)
+        contents += map(read_file, names)
+        return command.run(Library(options.library), options, *contents)
     except Failed as failed:
         complain(f"yotselina: {failed}")
     except Refused as refused:
-        complain(refusals.in_words(refused, options.file, content))
+        complain(refusals.in_words(refused, names, contents))
     return REFUSED, []
 
 

@@ -29,6 +29,7 @@ TRANSLATE_ANSWER = 1
 ACCEPTS_ANSWER = 1
 PAIRS_ANSWER = 1
 DIFFERENCE_ANSWER = 2
+JOIN_ANSWER = 1
 LEVEL, FIRST_AHEAD, SECOND_AHEAD, CLASH = range(4)
 
 
@@ -113,7 +114,7 @@ class Library:
         function.restype = ctypes.c_uint32
         returned = function(*(argument for places in lists for argument in (places, ctypes.c_size_t(len(places)))))
         if returned:
-            raise Refused(returned & 0xffff, returned >> 16)
+            raise Refused(returned & 0xffff, returned >> 16 & 0x7fff, returned >> 31)
 
     def check(self, file):
         self.call("check", lent(ctypes.c_uint8, file))
@@ -156,3 +157,9 @@ class Library:
         answer = lent(ctypes.c_uint64, DIFFERENCE_ANSWER)
         self.call("difference", lent(ctypes.c_uint8, x), lent(ctypes.c_uint8, y), answer)
         return answer[0], answer[1]
+
+    def join(self, first, second):
+        """The bytes of the joined table's file."""
+        out, answer = lent(ctypes.c_uint8, FILE), lent(ctypes.c_uint64, JOIN_ANSWER)
+        self.call("join", lent(ctypes.c_uint8, first), lent(ctypes.c_uint8, second), out, answer)
+        return bytes(out[:answer[0]])

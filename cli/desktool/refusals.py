@@ -2,18 +2,21 @@
 
 from typing import NamedTuple
 
+from . import table
+
 
 class Failed(Exception):
     """What the tool could not do, in words for its user."""
 
 
 class Refused(Exception):
-    """A refusal of the library: its number, and the record of the file where it is the file's."""
+    """A refusal of the library: its number, the record of the file where it is the file's, and whether that is the second of two files."""
 
-    def __init__(self, number, record):
-        super().__init__(number, record)
+    def __init__(self, number, record, second):
+        super().__init__(number, record, second)
         self.number = number
         self.record = record
+        self.second = second
 
 
 class Words(NamedTuple):
@@ -31,8 +34,8 @@ WORDS = {
              "n is 1 to 32, a state 0 to n - 1, k at most 256, an input 0 to 250, a count of outputs 0 to 8, an output 1 to 250"),
     5: Words(True, "the states of `S` or `F` records do not rise", "sort them, each once"),
     6: Words(True, "bytes follow the last record", "remove them, or correct the counts of `T`"),
-    7: Words(False, "a buffer is too short: for the result (writer, translator); else (verdict, useful states and pairs) below its size, whatever "
-             "the outcome would be",
+    7: Words(False, "a buffer is too short: for the result (writer, translator, join); else (verdict, useful states and pairs) below its size, "
+             "whatever the outcome would be",
              "lend a longer one: 13,202 bytes hold any file, 65,528 places any output; the verdict takes 2,047 for the word and each path, "
              "16,376 for each output; useful states take 32 flags, useful pairs 1,024"),
     8: Words(False, "a table value breaks a rule of document 01", "make tables by reading files"),
@@ -44,9 +47,16 @@ WORDS = {
     13: Words(False, "word test: the input word has over 63 codes, or the output word over 127",
               "ask about shorter words; the translator takes input words of up to 255 codes"),
     14: Words(False, "an output code is 0 or over 250", "codes are 1 to 250"),
+    15: Words(False, "join: a line of the first table writes more than one code",
+              "split the line: it writes its first code and enters a new state; from there lines that read nothing write the others, one each, and "
+              "the last enters the state that the line entered"),
+    16: Words(False, "join: over 32 joined pairs of states", "take states and lines that the series does not need out of either table"),
+    17: Words(False, "join: the joined table would have over 256 lines",
+              "take lines out of either table, repeats first: a line of the one makes a line with each line of the other that it steps with"),
     100: Words(False, "the library's list `answer` is too short", "lend as many places as include/yotselina.h names for the call"),
 }
 UNKNOWN = Words(False, "a number that this tool does not know", "see docs/MANUAL.md of the library's own version")
+MORE_THAN_ONE_CODE = 15
 LONGEST_SHOWN = 72  # bytes of a faulty line that are shown
 
 
@@ -60,13 +70,20 @@ def shown(content, line):
     return f"{plain} .." if len(text) > LONGEST_SHOWN else plain
 
 
-def in_words(refused, name, content):
-    """What a refusal means: number, record, the file's line with its text, cause and cure. Each record is one line, so record 0 is line 1."""
-    words = WORDS.get(refused.number, UNKNOWN)
-    if words.of_file:
-        line = refused.record + 1
-        head = [f"{name}:{line}: refused with number {refused.number}, record {refused.record} (line {line} of the file):",
-                f"    {shown(content, line)}"]
+def long_line(content):
+    """The line of the file, counted from 1, of the table's first line that writes more than one code; None if there is none."""
+    return next((line.place for line in table.parse(content).lines if len(line.output) > 1), None)
+
+
+def in_words(refused, names, contents):
+    """What a refusal means: number, record, the file's line with its text, cause and cure. Each record is one line, so record 0 is line 1. Of two
+    files the one is named that it is about, or both."""
+    words, said = WORDS.get(refused.number, UNKNOWN), f"refused with number {refused.number}"
+    name, content = (names[-1], contents[-1]) if refused.second else (names[0], contents[0])
+    line = refused.record + 1 if words.of_file else long_line(content) if refused.number == MORE_THAN_ONE_CODE else None
+    if line:
+        record = f", record {refused.record}" if words.of_file else ""
+        head = [f"{name}:{line}: {said}{record} (line {line} of the file):", f"    {shown(content, line)}"]
     else:
-        head = [f"{name}: refused with number {refused.number}:"]
+        head = [f"{' and '.join(names)}: {said}:"]
     return "\n".join(head + [f"cause: {words.cause}", f"cure:  {words.cure}"])

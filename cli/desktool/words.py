@@ -118,9 +118,17 @@ def split(table, useful, witness, difference, every):
 # --- the rest --------------------------------------------------------------------------------------------------------
 
 
-def taken(name, content, table):
-    return (f"{name}: taken: {counted(table.states, 'state')}, {counted(len(table.starts), 'start state')}, "
+def described(name, what, content, table):
+    """The counts of a table, and what was done with its file."""
+    return (f"{name}: {what}: {counted(table.states, 'state')}, {counted(len(table.starts), 'start state')}, "
             f"{counted(len(table.finals), 'final state')}, {counted(len(table.lines), 'line')}, {counted(len(content), 'byte')}")
+
+
+def joined(names, content, table):
+    """What two tables were joined to. A joined table that is not blank has a start state."""
+    first, second, out = names
+    said = [described(out, "joined", content, table)]
+    return said if table.starts else said + [f"This is the blank table: {second} reads no output of {first}."]
 
 
 def accepted(yes, word, output):

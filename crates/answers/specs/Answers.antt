@@ -11,6 +11,7 @@ use Rattle.words.specs.declared.Comparison.{Comparison}
 use Rattle.words.specs.declared.Comparison.the-variants.{Level, FirstAhead, SecondAhead, Clash}
 use Rattle.engine.specs.Engine.{numberOf, recordOf}
 use Rattle.engine.specs.declared.Judgement.{Judgement}
+use Rattle.joinfiles.specs.declared.FileJoin.{FileJoin}
 
 -- ---- refusals
 
@@ -21,6 +22,18 @@ refusalCode number at = number + 65536 * at
 -- the refusal of a file, 0 where it is taken
 abbrev pub fileCode : List ℕ → ℕ
 fileCode f = refusalCode (numberOf f) (recordOf f)
+
+-- what is added to the refusal of the second of two files: bit 31
+abbrev pub secondFlag : ℕ
+secondFlag = 2147483648
+
+-- the records below this number leave that bit free
+abbrev pub recordsTold : ℕ
+recordsTold = 32768
+
+-- a refusal in a join of two files as one number, 0 where nothing is refused
+unfoldable pub joinCode : FileJoin → ℕ
+joinCode j = refusalCode (j .number) (j .«record») + cond (j .second) secondFlag 0
 
 -- the refusal of a list that has fewer than n places, 0 where it has them
 unfoldable pub roomFault : ℕ → List ℕ → ℕ → ℕ
@@ -52,6 +65,10 @@ differenceAnswer = 2
 abbrev pub writeAnswer : ℕ
 writeAnswer = 1
 
+-- of a join of two files: a byte count
+abbrev pub joinAnswer : ℕ
+joinAnswer = 1
+
 -- ---- what is put into lists
 
 -- a flag: 1 where it is true
@@ -76,3 +93,9 @@ pub record Given (number at : ℕ) (numbers a a′ : List ℕ) (r : ℕ) : Type 
   pub code : r ≡ refusalCode number at
   pub refused : number ≢ 0 → a′ ≡ a
   pub answered : number ≡ 0 → a′ ≡ put a 0 numbers
+
+-- a join of two files ends so, with the byte count
+pub record JoinEnded (j : FileJoin) (a a′ : List ℕ) (r : ℕ) : Type 0 where
+  pub code : r ≡ joinCode j
+  pub refused : j .number ≢ 0 → a′ ≡ a
+  pub answered : j .number ≡ 0 → a′ ≡ put a 0 (j .length ∷ [])

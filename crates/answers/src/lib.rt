@@ -1,12 +1,13 @@
 // What the exported functions of `unit` return, and how their numbers and flags are put into lists. The contracts cite specs/Answers.antt.
 ghost use mathlib.Core.Path.{_≡_};
 ghost use mathlib.Core.List.{map};
-ghost use Prim.Native.Nat.{_≤_};
+ghost use Prim.Native.Nat.{_≤_, _<_};
 ghost use lib.ListN.{length};
 ghost use Rattle.buffers.specs.Put.{put};
 ghost use Rattle.tablereader.specs.Outcome.{numberOf, recordOf};
-ghost use Rattle.answers.specs.Answers.{refusalCode, verdictAnswer, flagOf, kindOf, numbersOf, Given};
+ghost use Rattle.answers.specs.Answers.{refusalCode, recordsTold, verdictAnswer, joinAnswer, flagOf, kindOf, numbersOf, Given, JoinEnded};
 use engine::Judgement;
+use joinfiles::FileJoin;
 use tablereader::Outcome;
 use words::Comparison;
 
@@ -22,6 +23,11 @@ pub const PAIRS: usize = 1;
 pub const DIFFERENCE: usize = 2;
 // The answer to a writing: a byte count.
 pub const WRITE: usize = 1;
+// The answer to a join of two files: a byte count.
+pub const JOIN: usize = 1;
+
+// What is added to the refusal of the second of two files: bit 31.
+const SECOND: u32 = 2147483648;
 
 // A refusal as one number: its own number in the low 16 bits, the record's number above.
 pub fn refusal(number: u16, at: u16) -> u32
@@ -77,6 +83,20 @@ pub fn give_judgement(answer: &mut [u64], judgement: Judgement) -> u32
         counts.output_y as u64,
     ];
     give(answer, &numbers, judgement.number, judgement.record)
+}
+
+// The same for the byte count of a join of two files; a refusal of the second file is told by bit 31.
+pub fn give_join(answer: &mut [u64], join: FileJoin) -> u32
+    requires { ⌜ joinAnswer ≤ length (now answer) ⌝ }
+    requires { ⌜ join .«record» < recordsTold ⌝ }
+    ensures { λ r. ⌜ JoinEnded join (now (answer .entry)) (now (answer .exit)) r ⌝ }
+{
+    let numbers = [join.length as u64];
+    let code = give(answer, &numbers, join.number, join.record);
+    if join.second {
+        return code + SECOND;
+    }
+    code
 }
 
 // Puts numbers to the front of a list.

@@ -5,3 +5,4 @@ pub mod HeaderRecord
 pub mod StateRecords
 pub mod TransitionRecords
 pub mod Validity
+pub mod ReadLaws

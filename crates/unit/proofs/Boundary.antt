@@ -18,13 +18,16 @@ use Rattle.engine.specs.Engine.{Taken, tableOf}
 use Rattle.engine.specs.declared.Judgement.{Judgement}
 use Rattle.engine.specs.declared.FileTranslation.{FileTranslation}
 use Rattle.engine.proofs.EngineLaws.{judged-determined, file-translated-determined}
-use Rattle.answers.specs.Answers.{refusalCode, flagOf, numbersOf, translateAnswer}
+use Rattle.joinfiles.specs.declared.FileJoin.{FileJoin}
+use Rattle.joinfiles.proofs.JoinLaws.{files-joined-determined}
+use Rattle.answers.specs.Answers.{refusalCode, flagOf, numbersOf, translateAnswer, joinAnswer}
 use Rattle.unit.specs.Calls.{VerdictGiven, translateCode, TranslationGiven, AnswerIn, AcceptsGiven}
-use Rattle.unit.specs.Calls.{Flagged, StatesGiven, PairsGiven, DifferenceGiven, FileGiven}
+use Rattle.unit.specs.Calls.{Flagged, StatesGiven, PairsGiven, DifferenceGiven, FileGiven, joinedCode, JoinGiven}
 use Rattle.unit.specs.Laws.{SameVerdict, Boundary}
 use Rattle.unit.proofs.Codes.{this-one, no-room, taken-code, code-taken, front, front-two}
 use Rattle.unit.proofs.WordCalls.{accepts-agreement}
 use Rattle.unit.proofs.AlikeCalls.{alike-verdict, alike-translation}
+use Rattle.unit.proofs.JoinCalls.{join-number-told, join-record-told, second-told, few-records, joined-file, alike-join}
 
 number-told : (number at : ℕ) → number < 65536 → refusalCode number at % 65536 ≡ number
 unfolding refusalCode
@@ -176,11 +179,43 @@ file-determined h k =
       same-left same (λ z z′. h .done z .1 ∙ sym (k .done z′ .1)) (λ n. h .refused n .1) (λ n. k .refused n .1),
     )
 
+-- ---- two files in series
+
+join-short-code : (j : FileJoin) (a : List ℕ) → length a < joinAnswer → joinedCode j a ≡ answerTooShort
+unfolding joinedCode
+join-short-code j a h = sym (this-one _ (no-room _ a answerTooShort h) (λ z. omega arith))
+
+join-determined : {f g out out₁ out₂ a a₁ a₂ : List ℕ} {r₁ r₂ : ℕ} → JoinGiven f g out out₁ a a₁ r₁ → JoinGiven f g out out₂ a a₂ r₂
+    → (r₁ ≡ r₂) × (out₁ ≡ out₂) × (a₁ ≡ a₂)
+join-determined {out₁ = out₁} {out₂} {a} {a₁} {a₂} {r₁} {r₂} h k = go (le-or-lt joinAnswer (length a))
+  where
+    go : (joinAnswer ≤ length a) ⊎ (length a < joinAnswer) → (r₁ ≡ r₂) × (out₁ ≡ out₂) × (a₁ ≡ a₂)
+    go (inl long) =
+        let same = files-joined-determined (h .joins long) (k .joins long) in
+        let code = h .code ∙ ap (λ j. joinedCode j a) (same .0) ∙ sym (k .code) in (
+          code,
+          same .1,
+          same-left code
+              (λ z z′. h .done z ∙ ap (λ j. put a 0 (j .length ∷ [])) (same .0) ∙ sym (k .done z′))
+              (λ n. h .refused n .1)
+              (λ n. k .refused n .1),
+        )
+    go (inr few) =
+        let one : r₁ ≡ answerTooShort = h .code ∙ join-short-code (h .join) a few in
+        let other : r₂ ≡ answerTooShort = k .code ∙ join-short-code (k .join) a few in
+        let kept = h .refused (λ z. omega (arith, one)) in
+        let kept′ = k .refused (λ z. omega (arith, other)) in
+        (one ∙ sym other, kept .0 ∙ sym (kept′ .0), kept .1 ∙ sym (kept′ .1))
+
 pub boundary : Boundary
 boundary =
     record {
       number-told = number-told;
       record-told = record-told;
+      join-number-told = join-number-told;
+      join-record-told = join-record-told;
+      second-told = second-told;
+      few-records = few-records;
       taken-exactly = λ f. (code-taken f, taken-code f);
       verdict = verdict-determined;
       translation = translation-determined;
@@ -192,4 +227,7 @@ boundary =
       pairs = pairs-determined;
       difference = difference-determined;
       file = file-determined;
+      join = join-determined;
+      joined-file = joined-file;
+      alike-join = alike-join;
     }

@@ -5,4 +5,5 @@ mod WordCalls
 mod UsefulCalls
 mod FileCalls
 mod AlikeCalls
+mod JoinCalls
 pub mod Boundary

@@ -1,5 +1,5 @@
--- What each exported function returns and leaves. f, x, y, input, output and the buffers b are what is lent, a is the answer list; a name with a prime
--- is what that list holds afterwards.
+-- What each exported function returns and leaves. f, g, x, y, input, output and the buffers b are what is lent, a is the answer list; a name with a
+-- prime is what that list holds afterwards.
 use mathlib.Core.Path.{_≡_}
 use mathlib.Core.Bool.{Bool, true, false, cond}
 use mathlib.Core.List.{List, [], _∷_, map}
@@ -22,8 +22,10 @@ use Rattle.functionality.specs.Decided.{fullOf, UsefulCount}
 use Rattle.engine.specs.Engine.{tableOf, Judged, FileTranslated}
 use Rattle.engine.specs.declared.Judgement.{Judgement}
 use Rattle.engine.specs.declared.FileTranslation.{FileTranslation}
-use Rattle.answers.specs.Answers.{refusalCode, fileCode, roomFault, flagOf, kindOf, numbersOf}
-use Rattle.answers.specs.Answers.{verdictAnswer, translateAnswer, acceptsAnswer, pairsAnswer, differenceAnswer, writeAnswer}
+use Rattle.joinfiles.specs.Joining.{FilesJoined}
+use Rattle.joinfiles.specs.declared.FileJoin.{FileJoin}
+use Rattle.answers.specs.Answers.{refusalCode, fileCode, joinCode, roomFault, flagOf, kindOf, numbersOf}
+use Rattle.answers.specs.Answers.{verdictAnswer, translateAnswer, acceptsAnswer, pairsAnswer, differenceAnswer, writeAnswer, joinAnswer}
 
 -- the first of the faults that is one, or 0
 unfoldable pub firstOf : List ℕ → ℕ
@@ -139,3 +141,17 @@ pub record FileGiven (f out out′ a a′ : List ℕ) (r : ℕ) : Type 0 where
   pub code : r ≡ writeCode f out a
   pub refused : r ≢ 0 → (out′ ≡ out) × (a′ ≡ a)
   pub done : r ≡ 0 → (out′ ≡ put out 0 f) × (a′ ≡ put a 0 (length f ∷ []))
+
+-- ---- two files in series
+
+-- refused are, in this order, an answer list that is too short, what the join of the files refuses: the first file, the second, the join, the buffer
+unfoldable pub joinedCode : FileJoin → List ℕ → ℕ
+joinedCode j a = firstOf (roomFault joinAnswer a answerTooShort ∷ joinCode j ∷ [])
+
+-- what `yotselina_join` returns and leaves: the byte count of the joined file stands at the front of the answer list
+pub record JoinGiven (f g out out′ a a′ : List ℕ) (r : ℕ) : Type 0 where
+  pub join : FileJoin
+  pub joins : joinAnswer ≤ length a → FilesJoined f g out out′ join
+  pub code : r ≡ joinedCode join a
+  pub refused : r ≢ 0 → (out′ ≡ out) × (a′ ≡ a)
+  pub done : r ≡ 0 → a′ ≡ put a 0 (join .length ∷ [])

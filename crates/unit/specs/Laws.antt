@@ -1,6 +1,6 @@
 -- What holds of any results that meet the contracts of specs/Calls.antt: a refusal's number and record can be told from what is returned; what is
--- returned and left is determined, but for what document 01 leaves open; files whose tables are alike are answered alike; and the word test agrees with
--- the translation. `boundary` of proofs/Boundary.antt proves it.
+-- returned and left is determined, but for what document 01 leaves open; files whose tables are alike are answered alike; the word test agrees with
+-- the translation; and a joined file is one of the two tables in series. `boundary` of proofs/Boundary.antt proves it.
 use mathlib.Core.Path.{_≡_}
 use mathlib.Core.List.{List}
 use mathlib.Core.Logic.{_↔_}
@@ -11,8 +11,12 @@ use Rattle.transducer.specs.Alike.{Alike}
 use Rattle.wordsearch.specs.Limits.{mostWritten}
 use Rattle.witness.specs.Showing.{Buffers}
 use Rattle.engine.specs.Engine.{Taken, tableOf}
-use Rattle.answers.specs.Answers.{refusalCode, fileCode, translateAnswer}
-use Rattle.unit.specs.Calls.{VerdictGiven, TranslationGiven, acceptsCode, AcceptsGiven, StatesGiven, PairsGiven, DifferenceGiven, FileGiven}
+use Rattle.joinfiles.specs.Joining.{FilesJoined}
+use Rattle.joinfiles.specs.Series.{FileInSeries}
+use Rattle.joinfiles.specs.declared.FileJoin.{FileJoin}
+use Rattle.answers.specs.Answers.{refusalCode, fileCode, secondFlag, recordsTold, joinCode, translateAnswer, flagOf}
+use Rattle.unit.specs.Calls.{VerdictGiven, TranslationGiven, acceptsCode, AcceptsGiven, StatesGiven, PairsGiven, DifferenceGiven}
+use Rattle.unit.specs.Calls.{FileGiven, JoinGiven}
 
 -- two verdicts are the same in all that document 01 settles
 pub record SameVerdict (b₁ b₂ : Buffers) (a₁ a₂ : List ℕ) (r₁ r₂ : ℕ) : Type 0 where
@@ -39,6 +43,11 @@ pub record Boundary : Type 0 where
   -- the low 16 bits of a refusal are its number, the others the record's
   pub number-told : (number at : ℕ) → number < 65536 → refusalCode number at % 65536 ≡ number
   pub record-told : (number at : ℕ) → number < 65536 → refusalCode number at / 65536 ≡ at
+  -- in a join of two files the number is in the low 16 bits, the record in the 15 above, and bit 31 says that the second file is refused
+  pub join-number-told : (j : FileJoin) → j .number < 65536 → joinCode j % 65536 ≡ j .number
+  pub join-record-told : (j : FileJoin) → j .number < 65536 → j .«record» < recordsTold → joinCode j / 65536 % recordsTold ≡ j .«record»
+  pub second-told : (j : FileJoin) → j .number < 65536 → j .«record» < recordsTold → joinCode j / secondFlag ≡ flagOf (j .second)
+  pub few-records : {f g out out′ : List ℕ} {j : FileJoin} → FilesJoined f g out out′ j → j .«record» < recordsTold
   -- `yotselina_check` returns 0 exactly where the file is taken
   pub taken-exactly : (f : List ℕ) → (fileCode f ≡ 0) ↔ Taken f
   pub verdict : {f a a₁ a₂ : List ℕ} {b b₁ b₂ : Buffers} {r₁ r₂ : ℕ} → VerdictGiven f b b₁ a a₁ r₁ → VerdictGiven f b b₂ a a₂ r₂
@@ -67,3 +76,12 @@ pub record Boundary : Type 0 where
   pub difference : {x y a a₁ a₂ : List ℕ} {r₁ r₂ : ℕ} → DifferenceGiven x y a a₁ r₁ → DifferenceGiven x y a a₂ r₂ → (r₁ ≡ r₂) × (a₁ ≡ a₂)
   pub file : {f out out₁ out₂ a a₁ a₂ : List ℕ} {r₁ r₂ : ℕ} → FileGiven f out out₁ a a₁ r₁ → FileGiven f out out₂ a a₂ r₂
       → (r₁ ≡ r₂) × (out₁ ≡ out₂) × (a₁ ≡ a₂)
+  pub join : {f g out out₁ out₂ a a₁ a₂ : List ℕ} {r₁ r₂ : ℕ} → JoinGiven f g out out₁ a a₁ r₁ → JoinGiven f g out out₂ a a₂ r₂
+      → (r₁ ≡ r₂) × (out₁ ≡ out₂) × (a₁ ≡ a₂)
+  -- document 02, job 3, from bytes to bytes: the file that is written is taken, its table's relation is the composition of the two, and two single
+  -- tables give a single one
+  pub joined-file : {f g out out′ a a′ : List ℕ} {r : ℕ} → JoinGiven f g out out′ a a′ r → r ≡ 0 → FileInSeries f g (take (getD a′ 0 0) out′)
+  -- files whose tables are alike are joined to files whose tables are alike, where neither call is refused
+  pub alike-join : {f g out out′ a a′ f₂ g₂ d d′ c c′ : List ℕ} {r s : ℕ} → Alike (tableOf f) (tableOf f₂) → Alike (tableOf g) (tableOf g₂)
+      → JoinGiven f g out out′ a a′ r → r ≡ 0 → JoinGiven f₂ g₂ d d′ c c′ s → s ≡ 0
+      → Alike (tableOf (take (getD a′ 0 0) out′)) (tableOf (take (getD c′ 0 0) d′))

@@ -1,10 +1,11 @@
-// The library that a unit links: the documents' calls for C, over lists and numbers only. Each returns 0, or a refusal as one number (`refusalCode` of the
-// crate `answers`); a refusal changes no list. Where the answer is several numbers they go to the front of the list `answer`, whose length is
-// looked at before anything else. The contracts cite specs/Calls.antt; specs/Laws.antt says what they determine.
+// The library that a unit links: the documents' calls for C, over lists and numbers only. Each returns 0, or a refusal as one number (`refusalCode` of
+// the crate `answers`, in a join of two files `joinCode`); a refusal changes no list. Where the answer is several numbers they go to the front of the
+// list `answer`, whose length is looked at before anything else. The contracts cite specs/Calls.antt; specs/Laws.antt says what they determine.
 ghost use mathlib.Core.Path.{_≡_};
 ghost use Rattle.witness.specs.Showing.{buffersOf};
 ghost use Rattle.answers.specs.Answers.{fileCode};
-ghost use Rattle.unit.specs.Calls.{VerdictGiven, TranslationGiven, AcceptsGiven, StatesGiven, PairsGiven, DifferenceGiven, FileGiven};
+ghost use Rattle.unit.specs.Calls.{VerdictGiven, TranslationGiven, AcceptsGiven, StatesGiven, PairsGiven, DifferenceGiven};
+ghost use Rattle.unit.specs.Calls.{FileGiven, JoinGiven};
 use product::steps::PAIRS;
 use transducer::limits;
 use transducer::refusals;
@@ -183,4 +184,24 @@ pub extern "C" fn yotselina_write(file: &[u8], out: &mut [u8], answer: &mut [u64
     let writing = tablewriter::write(table, out);
     let numbers = [writing.length() as u64];
     answers::give(answer, &numbers, writing.number() as u16, 0)
+}
+
+// Reads two table files and writes the file of their tables in series to the front of `out`; the answer is the byte count. A refusal of the second file
+// has bit 31 set.
+#[no_mangle]
+pub extern "C" fn yotselina_join(
+    first: &[u8],
+    second: &[u8],
+    out: &mut [u8],
+    answer: &mut [u64],
+) -> u32
+    ensures { λ r. ⌜
+        JoinGiven (now (first .entry)) (now (second .entry)) (now (out .entry)) (now (out .exit)) (now (answer .entry)) (now (answer .exit)) r
+        ⌝ }
+{
+    if answer.len() < answers::JOIN {
+        return ANSWER_TOO_SHORT;
+    }
+    let join = joinfiles::join_files(first, second, out);
+    answers::give_join(answer, join)
 }

@@ -1,0 +1,3 @@
+-- The laws of two files in series: how `join_files` meets its contract, and of every answer that does.
+mod Returns
+pub mod JoinLaws

@@ -1,0 +1,133 @@
+-- How `join_files` meets its contract: a law for each of its returns. Assumes nothing.
+use mathlib.Core.Path.{_≡_, refl, sym, ap, _∙_}
+use mathlib.Core.Bool.{Bool, true, false, cond}
+use mathlib.Core.List.{List}
+use mathlib.Core.Logic.{_≢_}
+use Prim.Native.Nat.{ℕ}
+use borrow.Author.Tests.{eq-eqb, ne-eqb}
+use lib.Dec.{eqb, leb}
+use lib.ListN.{length}
+use Rattle.buffers.specs.Put.{put}
+use Rattle.transducer.specs.Refusals.{tooShort, invalid}
+use Rattle.transducer.specs.Blank.{blankTransducer}
+use Rattle.transducer.specs.declared.Transducer.{Transducer}
+use Rattle.transducer.proofs.AcceptedLaws.{valid-accepted}
+use Rattle.tablereader.specs.Outcome as outcome
+use Rattle.tablereader.specs.Reader.{readOf}
+use Rattle.tablereader.specs.declared.Reading.{Reading}
+use Rattle.tablereader.proofs.Outcomes.{taken-number}
+use Rattle.tablewriter.specs.File.{writeOf}
+use Rattle.tablewriter.specs.Writing as wrote
+use Rattle.tablewriter.specs.Writing.{inCase, Wrote}
+use Rattle.tablewriter.specs.declared.Writing.{Writing}
+use Rattle.series.specs.Join as join
+use Rattle.series.specs.Join.{JoinedOf}
+use Rattle.series.specs.declared.Outcome.the-variants.{Made}
+use Rattle.series.specs.declared.Joined.{Joined}
+use Rattle.series.proofs.SeriesLaws.{in-series}
+use Rattle.engine.specs.Engine.{numberOf, recordOf, Taken, tableOf}
+use Rattle.joinfiles.specs.Joining.{_▸_, shortNumber, joinNumber, joinRecord, ofSecond, FilesJoined}
+use Rattle.joinfiles.specs.declared.FileJoin.{FileJoin}
+
+-- the answer that refuses
+abbrev pub refusedWith : ℕ → ℕ → Bool → FileJoin
+refusedWith number at second = record { number = number; «record» = at; second = second; length = 0 }
+
+-- the answer that is the writer's
+abbrev pub answeredBy : Writing → FileJoin
+answeredBy w = record { number = wrote.numberOf w; «record» = 0; second = false; length = wrote.lengthOf w }
+
+-- what stands for the join where there is none
+abbrev noJoin : Joined
+noJoin = record { outcome = Made; table = blankTransducer }
+
+module _ (f g : List ℕ) {out : List ℕ} where
+  -- a refusal leaves the buffer
+  refused-so : {joined : Joined} {number at : ℕ} {second : Bool} → (Taken f → Taken g → JoinedOf (tableOf f) (tableOf g) joined) → number ≢ 0
+      → number ≡ joinNumber f g joined out → at ≡ joinRecord f g → second ≡ ofSecond f g → FilesJoined f g out out (refusedWith number at second)
+  refused-so {joined} {number} h n e at second =
+      let not-done = ne-eqb number 0 n in
+      record {
+        joined = joined;
+        joins = h;
+        number = e;
+        at-record = at;
+        second = second;
+        count = rw not-done;
+        buffer = rw not-done;
+      }
+
+  -- the first file is refused
+  pub first-refused : {r : FileJoin} → numberOf f ≢ 0 → r ≡ refusedWith (numberOf f) (recordOf f) false → FilesJoined f g out out r
+  unfolding joinNumber _▸_ joinRecord ofSecond
+  first-refused n e =
+      let refused = ne-eqb (numberOf f) 0 n in
+      rw e (refused-so {joined = noJoin} (λ t. absurd (n t)) n (rw refused) (rw refused) (rw refused))
+
+  -- the second file is refused
+  pub second-refused : {r : FileJoin} → Taken f → numberOf g ≢ 0 → r ≡ refusedWith (numberOf g) (recordOf g) true → FilesJoined f g out out r
+  unfolding joinNumber _▸_ joinRecord ofSecond
+  second-refused t n e =
+      let taken = eq-eqb (numberOf f) 0 t in
+      let refused = ne-eqb (numberOf g) 0 n in
+      rw e (refused-so {joined = noJoin} (λ _ t′. absurd (n t′)) n (rw (taken, refused)) (rw taken) (rw (taken, refused)))
+
+-- the join is of what the reader returns
+pub joined-read : (f g : List ℕ) {reading reading′ : Reading} {joined : Joined} → reading ≡ readOf f → reading′ ≡ readOf g
+    → JoinedOf (reading .table) (reading′ .table) joined → JoinedOf (tableOf f) (tableOf g) joined
+joined-read f g e e′ h = rw (e, e′) at h
+
+-- no file is refused
+module _ (f g : List ℕ) (t : Taken f) (t′ : Taken g) where
+  pub no-record : 0 ≡ joinRecord f g
+  unfolding joinRecord
+  no-record = rw (eq-eqb (numberOf f) 0 t) (sym (ap outcome.recordOf (taken-number (readOf g .outcome) t′)))
+
+  pub not-second : false ≡ ofSecond f g
+  unfolding ofSecond
+  not-second = rw (eq-eqb (numberOf f) 0 t, eq-eqb (numberOf g) 0 t′)
+
+  past-files : (joined : Joined) (out : List ℕ) → joinNumber f g joined out ≡ join.numberOf (joined .outcome) ▸ shortNumber joined out
+  unfolding joinNumber _▸_
+  past-files joined out = rw (eq-eqb (numberOf f) 0 t, eq-eqb (numberOf g) 0 t′)
+
+-- the joined table keeps the rules, so that only a short buffer is refused
+written-case : {first second : Transducer} {joined : Joined} → JoinedOf first second joined → (out : List ℕ) {A : Type 0} (broken short done : A)
+    → inCase (joined .table) out broken short done ≡ cond (leb (length (writeOf (joined .table))) (length out)) done short
+unfolding inCase
+written-case {joined = joined} h out broken short done = rw (valid-accepted (joined .table) (in-series h .valid))
+
+-- whether it is shows in the number
+by-number : {A : Type 0} (x : Bool) (done short : A) → cond x done short ≡ cond (eqb (cond x 0 tooShort) 0) done short
+by-number true done short = refl
+by-number false done short = refl
+
+module _ (f g : List ℕ) {out : List ℕ} {joined : Joined} (t : Taken f) (t′ : Taken g) (h : JoinedOf (tableOf f) (tableOf g) joined) where
+  -- the join is refused
+  pub join-refused : {r : FileJoin} → join.numberOf (joined .outcome) ≢ 0 → r ≡ refusedWith (join.numberOf (joined .outcome)) 0 false
+      → FilesJoined f g out out r
+  unfolding _▸_
+  join-refused n e =
+      rw e
+      (refused-so f g (λ _ _. h) n
+      (rw (past-files f g t t′ joined out, ne-eqb (join.numberOf (joined .outcome)) 0 n))
+      (no-record f g t t′) (not-second f g t t′))
+
+  -- its file is written, or the buffer is short
+  pub join-written : {r : FileJoin} {out′ : List ℕ} {w : Writing} → join.numberOf (joined .outcome) ≡ 0 → Wrote (joined .table) out out′ w
+      → r ≡ answeredBy w → FilesJoined f g out out′ r
+  unfolding _▸_ shortNumber
+  join-written {w = w} z writes e =
+      let file = writeOf (joined .table) in
+      let room = leb (length file) (length out) in
+      let number : wrote.numberOf w ≡ cond room 0 tooShort = writes .number ∙ written-case h out invalid tooShort 0 in
+      rw e
+      (record {
+        joined = joined;
+        joins = λ _ _. h;
+        number = number ∙ sym (past-files f g t t′ joined out ∙ rw (eq-eqb (join.numberOf (joined .outcome)) 0 z));
+        at-record = no-record f g t t′;
+        second = not-second f g t t′;
+        count = writes .count ∙ written-case h out 0 0 (length file) ∙ rw number (by-number room (length file) 0);
+        buffer = writes .buffer ∙ written-case h out out out (put out 0 file) ∙ rw number (by-number room (put out 0 file) out);
+      })

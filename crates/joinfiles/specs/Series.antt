@@ -1,0 +1,17 @@
+-- What holds of the file that `join_files` writes, from bytes to bytes (document 02, job 3).
+use mathlib.Core.List.{List}
+use mathlib.Core.Logic.{_↔_}
+use Prim.Native.Nat.{ℕ}
+use Rattle.transducer.specs.Transition.{InputWord, OutputWord}
+use Rattle.transducer.specs.Paths.{Relates, Functional}
+use Rattle.series.specs.Composition.{Composes}
+use Rattle.engine.specs.Engine.{Taken, tableOf}
+
+-- h is a file of the tables of f and g in series
+pub record FileInSeries (f g h : List ℕ) : Type 0 where
+  -- the reader takes it
+  pub taken : Taken h
+  -- its relation is the composition of the two
+  pub composition : (x : InputWord) (z : OutputWord) → Relates (tableOf h) x z ↔ Composes (tableOf f) (tableOf g) x z
+  -- and two functional tables give a functional one
+  pub functional : Functional (tableOf f) → Functional (tableOf g) → Functional (tableOf h)
