@@ -1,5 +1,5 @@
-//! The yardstick of `yotselina_join`, in plain Rust, by the library's method: two searches over pairs of states, one along the steps from two start states
-//! and one against them from two final states, then the steps between the pairs that both have found, in the order of the lines.
+//! The yardstick of `yotselina_join`, in plain Rust, by the library's method: two searches over pairs of states, one along the steps from two start
+//! states and one against them from two final states, then the steps between the pairs that both have found, in the order of the lines.
 
 use crate::plain::{read, Transition};
 

@@ -354,6 +354,15 @@ fn joins() -> Vec<(&'static str, Joins)> {
         ("dense, 32 states, 1 input, before the same without final state", wide.clone().echo(), wide.clone().without_finals()),
         ("dense, 32 states, 8 inputs, before the same without final state", narrow.clone().echo(), narrow.clone().without_finals()),
     ];
+    let (loops_astray, lost) = (astray(1, 254, 1, 1), astray(1, 16, 239, 1));
+    let searched = vec![
+        ("astray: 16 loops and 239 lines that do not finish, before the same", lost.clone().echo(), lost),
+        ("astray: 250 loops, 250 inputs, before the same", astray(1, 250, 5, 250).echo(), astray(1, 250, 5, 250)),
+        ("astray: 254 loops before 254", loops_astray.clone().echo(), loops_astray.clone()),
+        ("astray: 30 states, 254 lines, before 254 loops", astray(30, 254, 1, 1).echo(), loops_astray),
+        ("astray: 8 states, 254 lines, before 4 states, 31 inputs", astray(8, 254, 1, 31).echo(), astray(4, 254, 1, 31)),
+        ("astray: 30 states, 254 lines, before the same", astray(30, 254, 1, 1).echo(), astray(30, 254, 1, 1)),
+    ];
     let refused = vec![
         ("dense, 32 states, 1 input, before the same", wide.clone().echo(), wide),
         ("dense, 32 states, 8 inputs, before the same", narrow.clone().echo(), narrow),
@@ -366,6 +375,7 @@ fn joins() -> Vec<(&'static str, Joins)> {
         ("Up to 32 joined pairs and 256 lines", full),
         ("Up to 1,024 reached pairs, few or none joined", reached),
         ("Refused with 16 or 17", refused),
+        ("Astray: both searches go to the end", searched),
     ]
 }
 

@@ -112,6 +112,16 @@ pub fn loops(count: usize, inputs: usize) -> Table {
     Table { transitions: (0..count).map(|i| transition(0, 0, 1 + i % inputs, codes(i, 8))).collect(), ..one_state() }
 }
 
+/// Some states, of which the first is the only start state and the only final one, and so many transitions spread over them; so many (`lost`) from
+/// the first to a state that does not finish; and one to it from a state that is never reached. So a search of a join tries every step that it meets.
+/// The transitions read from 1 on one code more each time, as far as `inputs`.
+pub fn astray(states: usize, count: usize, lost: usize, inputs: usize) -> Table {
+    let within = (0..count).map(|i| (i % states, (i % states + 1 + i / states) % states));
+    let ends = within.chain(std::iter::repeat((0, states)).take(lost)).chain([(states + 1, 0)]);
+    let transitions = ends.enumerate().map(|(i, (source, target))| transition(source, target, 1 + i % inputs, codes(i, 8))).collect();
+    Table { states: states + 2, starts: vec![0], finals: vec![0], transitions }
+}
+
 /// States in a row, of which the first is the start state and the second the final one.
 pub fn row(states: usize) -> Table {
     Table { states, starts: vec![0], finals: vec![1], transitions: (1..states).map(|i| transition(i - 1, i, 1, vec![])).collect() }

@@ -277,8 +277,9 @@ uint32_t yotselina_write(const uint8_t *file, size_t file_length,
  * first's line reads and writes what the second's line writes. Lines are ordered by the state that they leave, then the first's line, then the
  * second's, none before any.
  * The joined table relates an input word to an output word exactly if some word between them is an output of the input word by the first table and
- * has the output word by the second. Two single tables join to a single one. If there is no joined pair, the blank table is written: one state,
- * and nothing else.
+ * has the output word by the second. Two single tables join to a single one. Tables that are alike join to tables that are alike, where neither
+ * join is refused; 17 may come of one only, since repeats make lines. If there is no joined pair, the blank table is written: one state, and
+ * nothing else.
  *
  * Refusals: 100; 1 to 6, 12 with the record, of the first file, then of the second (YOTSELINA_SECOND); 15, 16, 17; 7 if the joined file does not fit,
  * never with YOTSELINA_FILE places.

@@ -1,8 +1,8 @@
 /*
  * Calls every function of the library as C does, and prints one line for each call; tests/linked.py runs this under valgrind and compares the lines.
  *
- *     boundary TABLE INPUT OUTPUT SECOND [..]   files: a table file, the codes of an input word and of an output word, and a table file that is joined
- *                                               behind the first; four for each sample
+ *     boundary TABLE INPUT OUTPUT SECOND [..]   files: a table file, the codes of an input word and of an output word, and a table file that is
+ *                                               joined behind the first; four for each sample
  *     boundary beside                           touches a place beside a list, which valgrind must see
  *
  * Each list is a piece of memory of its own, of exactly the places that are lent and with no content, so that valgrind sees a place beside it that is

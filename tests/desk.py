@@ -235,7 +235,7 @@ def try_refused_joins(tool, findings):
 
 
 def try_joins(tool, findings):
-    """Joins of generated pairs by the reference; the pairs of tables/ that the manual names; a table with itself."""
+    """Joins of generated pairs by the reference; a table with itself."""
     for index in range(share(JOINS)):
         random = randomness("desk, join", index)
         files = files_of(series.KINDS[list(series.KINDS)[index % len(series.KINDS)]][1](random))

@@ -27,11 +27,11 @@ NO_CODE = "not_all_codes({0}, {0}_length)"
 TAKEN = "answer_length && !yotselina_check(first, first_length) && !yotselina_check(second, second_length)"  # what misjoins.c asks for
 # the rules of a join that misjoins.c can have wrong
 MISJOINS = (
-    "silent lines step together", "no step alone of the first", "no step alone of the second", "one pair of start states",
-    "one start or final state is enough", "pairs that are not reached", "pairs that do not finish", "reached pairs are counted",
-    "numbered by the second state", "no state without a joined pair", "no steps to the same pair", "a line reads what the second reads",
-    "the second's line first", "no line comes last", "15 for joined states only", "15 after 16 and 17", "17 before 16", "33 pairs are taken",
-    "32 pairs are refused", "257 lines are taken", "256 lines are refused", "16 bits count the lines",
+    "silent lines step together", "the code between is ignored", "no step alone of the first", "no step alone of the second",
+    "one pair of start states", "one start or final state is enough", "pairs that are not reached", "pairs that do not finish",
+    "reached pairs are counted", "numbered by the second state", "no state without a joined pair", "no steps to the same pair",
+    "a line reads what the second reads", "the second's line first", "no line comes last", "15 for joined states only", "15 after 16 and 17",
+    "17 before 16", "33 pairs are taken", "32 pairs are refused", "257 lines are taken", "256 lines are refused", "16 bits count the lines",
 )
 
 

@@ -145,9 +145,11 @@ def compare_joined(library, findings, random, files, joined, tests):
     """The joined table, by other calls of the library: two single tables give a single one; it says yes to what paths of both write."""
     verdicts = [library.call(random, "verdict", content) for content in (*files, joined)]
     single = [(call.returned, call.lent["answer"].items(1)) == (0, (0,)) for call in verdicts]
-    faults = ["two single tables, and the joined one is split"] if all(single[:2]) and not single[2] else []
+    faults = [f"the verdict of {name} returned {call.returned}" for name, call in zip(("the first", "the second", "the joined one"), verdicts)
+              if call.returned]
+    faults += ["two single tables, and the joined one is not"] if all(single[:2]) and not single[2] else []
     findings.check(f"library, {GROUP}, verdict", faults, files[0], as_second(files[1]))
-    named = ["single" if one else "split" for one in single]
+    named = ["refused" if call.returned else "single" if one else "split" for call, one in zip(verdicts, single)]
     findings.count(f"library, {GROUP}, verdicts", f"{named[0]} and {named[1]} give {named[2]}")
     if all(single):
         compare_translations(library, findings, random, files, joined)

@@ -74,7 +74,8 @@ static int step(const struct series *s, unsigned pair, unsigned a, unsigned b)
         return -1;
     if (line && other) {
         int silent = is(s, "silent lines step together") && !line->count && !other->input;
-        if (!silent && (line->count != 1 || line->output[0] != other->input))
+        int ignored = is(s, "the code between is ignored") && line->count == 1 && other->input;
+        if (!silent && !ignored && (line->count != 1 || line->output[0] != other->input))
             return -1;
     } else if (line ? line->count != 0 : other->input != 0) {
         return -1;

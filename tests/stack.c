@@ -1,7 +1,7 @@
 /*
  * How much stack each call takes: it runs on a stack of its own that was painted before, and the deepest byte that lost its colour tells.
- * Prints a line for each call: its name and the bytes. The first argument is the table file; its input word is as many ones as a word may have, and the
- * output word that is tested is the beginning of what that table writes. The other two are the table files that are joined.
+ * Prints a line for each call: its name and the bytes. The first argument is the table file; its input word is as many ones as a word may have, and
+ * the output word that is tested is the beginning of what that table writes. The other two are the table files that are joined.
  * Then a line for each of some differences of short and of long lists: the codes of the longer list, the kind that is answered, and the bytes.
  */
 #define _XOPEN_SOURCE 700

@@ -3,17 +3,20 @@
 -- Assumes nothing.
 use mathlib.Core.Path.{_≡_, sym, ap, _∙_}
 use mathlib.Core.Bool.{Bool, true, false, cond}
-use mathlib.Core.List.{List}
+use mathlib.Core.List.{List, [], _∷_}
 use mathlib.Core.Logic.{_≢_}
-use Prim.Native.Nat.{ℕ, _≤_}
+use Prim.Native.Nat.{ℕ, _≤_, _<_}
 use native.Mathlib.Decide.{ℕ-discrete}
+use native.Mathlib.Omega.{arith}
 use borrow.Author.Tests.{eq-eqb, ne-eqb}
 use lib.Dec.{eqb}
 use lib.ListN.{length, take}
 use Rattle.buffers.specs.Put.{put}
 use Rattle.buffers.proofs.PutLaws.{front-put}
+use Rattle.transducer.specs.Refusals.{firstOf}
 use Rattle.transducer.specs.Alike.{Alike}
 use Rattle.transducer.specs.declared.Transducer.{Transducer}
+use Rattle.transducer.proofs.RefusalLaws.{no-more, none-of, others-same, first-below}
 use Rattle.transducer.proofs.AcceptedLaws.{valid-accepted}
 use Rattle.tablereader.specs.Outcome as outcome
 use Rattle.tablereader.specs.Reader.{readOf}
@@ -27,31 +30,12 @@ use Rattle.series.specs.declared.Joined.{Joined}
 use Rattle.series.proofs.SeriesLaws.{in-series, joined-shaped, joined-determined}
 use Rattle.series.proofs.AlikeLaws.{alike-joins}
 use Rattle.engine.specs.Engine.{numberOf, recordOf, Taken, tableOf}
-use Rattle.joinfiles.specs.Joining.{_▸_, shortNumber, joinNumber, joinRecord, whereDone, FilesJoined}
+use Rattle.joinfiles.specs.Joining.{shortNumber, joinNumber, joinRecord, whereDone, FilesJoined}
 use Rattle.joinfiles.specs.Series.{FileInSeries}
 use Rattle.joinfiles.specs.declared.FileJoin.{FileJoin}
 use Rattle.tablereader.proofs.ReadLaws.{mostRecords, read-shaped, read-record}
 use Rattle.joinfiles.proofs.Returns.{no-record, not-second}
-
--- ---- two refusals in a row
-
--- there is none where neither is one
-first-zero : (n m : ℕ) → n ▸ m ≡ 0 → (n ≡ 0) × (m ≡ 0)
-unfolding _▸_
-first-zero n m e = go (ℕ-discrete n 0)
-  where
-    go : Dec (n ≡ 0) → (n ≡ 0) × (m ≡ 0)
-    go (yes z) = (z, sym (ap (λ x. cond x m n) (eq-eqb n 0 z)) ∙ e)
-    go (no x) = absurd (x (sym (ap (λ y. cond y m n) (ne-eqb n 0 x)) ∙ e))
-
--- the second counts only where the first is none
-first-same : (n m m′ : ℕ) → (n ≡ 0 → m ≡ m′) → n ▸ m ≡ n ▸ m′
-unfolding _▸_
-first-same n m m′ same = go (ℕ-discrete n 0)
-  where
-    go : Dec (n ≡ 0) → cond (eqb n 0) m n ≡ cond (eqb n 0) m′ n
-    go (yes z) = rw (eq-eqb n 0 z) (same z)
-    go (no x) = rw (ne-eqb n 0 x)
+use Rattle.joinfiles.proofs.Numbers.{reader-small, join-small, short-small}
 
 -- ---- every answer
 
@@ -64,6 +48,16 @@ module _ {f g out out′ : List ℕ} {r : FileJoin} (h : FilesJoined f g out out
       go : (x : Bool) → cond x (recordOf g) (recordOf f) ≤ mostRecords
       go true = read-record g
       go false = read-record f
+
+  -- every number has its place in 16 bits
+  pub joined-number : r .number < 65536
+  unfolding joinNumber
+  joined-number =
+      rw (h .number)
+      (first-below _ (reader-small (readOf f .outcome))
+      (first-below _ (reader-small (readOf g .outcome))
+      (first-below _ (join-small (h .joined .outcome))
+      (first-below _ (short-small (h .joined) out) (rw (← no-more) (omega arith))))))
 
   -- a refusal leaves the buffer
   pub refused-leaves : r .number ≢ 0 → out′ ≡ out
@@ -81,9 +75,9 @@ module _ {f g out out′ : List ℕ} {r : FileJoin} (h : FilesJoined f g out out
   none-refused : NoneRefused f g (h .joined)
   unfolding joinNumber
   none-refused =
-      let one = first-zero (numberOf f) _ (sym (h .number) ∙ z) in
-      let two = first-zero (numberOf g) _ (one .1) in
-      record { first = one .0; second = two .0; made = first-zero _ (shortNumber (h .joined) out) (two .1) .0 }
+      let one = none-of _ (sym (h .number) ∙ z) in
+      let two = none-of _ (one .1) in
+      record { first = one .0; second = two .0; made = none-of _ (two .1) .0 }
 
   -- and no record is told
   pub done-record : r .«record» ≡ 0
@@ -119,6 +113,13 @@ module _ {f g out out′ : List ℕ} {r : FileJoin} (h : FilesJoined f g out out
       let series = in-series joined-of in
       record {
         taken = ap (λ (x : Reading). outcome.numberOf (x .outcome)) file-read;
+        joins =
+            record {
+              joined = joined-of .joined;
+              exactly = joined-of .exactly;
+              number = sym (none-refused .made) ∙ joined-of .number;
+              table = file-joined ∙ joined-of .table;
+            };
         composition = rw file-joined (series .composition (none-refused .made));
         functional = rw file-joined (series .functional);
       }
@@ -133,9 +134,9 @@ module _ {f g out out₁ out₂ : List ℕ} {r₁ r₂ : FileJoin} (h : FilesJoi
   unfolding joinNumber
   same-number =
       h .number
-      ∙ first-same (numberOf f) _ _
-      (λ t. first-same (numberOf g) _ _
-      (λ t′. ap (λ (j : Joined). join.numberOf (j .outcome) ▸ shortNumber j out) (same-joined t t′)))
+      ∙ others-same (numberOf f) _ _
+      (λ t. others-same (numberOf g) _ _
+      (λ t′. ap (λ (j : Joined). firstOf (join.numberOf (j .outcome) ∷ shortNumber j out ∷ [])) (same-joined t t′)))
       ∙ sym (k .number)
 
   -- what is done with the joined tables

@@ -1,16 +1,17 @@
 -- How `join_files` meets its contract: a law for each of its returns. Assumes nothing.
 use mathlib.Core.Path.{_≡_, refl, sym, ap, _∙_}
 use mathlib.Core.Bool.{Bool, true, false, cond}
-use mathlib.Core.List.{List}
+use mathlib.Core.List.{List, [], _∷_}
 use mathlib.Core.Logic.{_≢_}
 use Prim.Native.Nat.{ℕ}
 use borrow.Author.Tests.{eq-eqb, ne-eqb}
 use lib.Dec.{eqb, leb}
 use lib.ListN.{length}
 use Rattle.buffers.specs.Put.{put}
-use Rattle.transducer.specs.Refusals.{tooShort, invalid}
+use Rattle.transducer.specs.Refusals.{tooShort, invalid, firstOf}
 use Rattle.transducer.specs.Blank.{blankTransducer}
 use Rattle.transducer.specs.declared.Transducer.{Transducer}
+use Rattle.transducer.proofs.RefusalLaws.{this-one, none-then, only-one}
 use Rattle.transducer.proofs.AcceptedLaws.{valid-accepted}
 use Rattle.tablereader.specs.Outcome as outcome
 use Rattle.tablereader.specs.Reader.{readOf}
@@ -26,7 +27,7 @@ use Rattle.series.specs.declared.Outcome.the-variants.{Made}
 use Rattle.series.specs.declared.Joined.{Joined}
 use Rattle.series.proofs.SeriesLaws.{in-series}
 use Rattle.engine.specs.Engine.{numberOf, recordOf, Taken, tableOf}
-use Rattle.joinfiles.specs.Joining.{_▸_, shortNumber, joinNumber, joinRecord, ofSecond, FilesJoined}
+use Rattle.joinfiles.specs.Joining.{shortNumber, joinNumber, joinRecord, ofSecond, FilesJoined}
 use Rattle.joinfiles.specs.declared.FileJoin.{FileJoin}
 
 -- the answer that refuses
@@ -59,18 +60,18 @@ module _ (f g : List ℕ) {out : List ℕ} where
 
   -- the first file is refused
   pub first-refused : {r : FileJoin} → numberOf f ≢ 0 → r ≡ refusedWith (numberOf f) (recordOf f) false → FilesJoined f g out out r
-  unfolding joinNumber _▸_ joinRecord ofSecond
+  unfolding joinNumber joinRecord ofSecond
   first-refused n e =
       let refused = ne-eqb (numberOf f) 0 n in
-      rw e (refused-so {joined = noJoin} (λ t. absurd (n t)) n (rw refused) (rw refused) (rw refused))
+      rw e (refused-so {joined = noJoin} (λ t. absurd (n t)) n (this-one _ refl n) (rw refused) (rw refused))
 
   -- the second file is refused
   pub second-refused : {r : FileJoin} → Taken f → numberOf g ≢ 0 → r ≡ refusedWith (numberOf g) (recordOf g) true → FilesJoined f g out out r
-  unfolding joinNumber _▸_ joinRecord ofSecond
+  unfolding joinNumber joinRecord ofSecond
   second-refused t n e =
       let taken = eq-eqb (numberOf f) 0 t in
       let refused = ne-eqb (numberOf g) 0 n in
-      rw e (refused-so {joined = noJoin} (λ _ t′. absurd (n t′)) n (rw (taken, refused)) (rw taken) (rw (taken, refused)))
+      rw e (refused-so {joined = noJoin} (λ _ t′. absurd (n t′)) n (none-then _ t (this-one _ refl n)) (rw taken) (rw (taken, refused)))
 
 -- the join is of what the reader returns
 pub joined-read : (f g : List ℕ) {reading reading′ : Reading} {joined : Joined} → reading ≡ readOf f → reading′ ≡ readOf g
@@ -87,9 +88,10 @@ module _ (f g : List ℕ) (t : Taken f) (t′ : Taken g) where
   unfolding ofSecond
   not-second = rw (eq-eqb (numberOf f) 0 t, eq-eqb (numberOf g) 0 t′)
 
-  past-files : (joined : Joined) (out : List ℕ) → joinNumber f g joined out ≡ join.numberOf (joined .outcome) ▸ shortNumber joined out
-  unfolding joinNumber _▸_
-  past-files joined out = rw (eq-eqb (numberOf f) 0 t, eq-eqb (numberOf g) 0 t′)
+  past-files : (joined : Joined) (out : List ℕ) {r : ℕ} → r ≡ firstOf (join.numberOf (joined .outcome) ∷ shortNumber joined out ∷ [])
+      → r ≡ joinNumber f g joined out
+  unfolding joinNumber
+  past-files joined out e = none-then _ t (none-then _ t′ e)
 
 -- the joined table keeps the rules, so that only a short buffer is refused
 written-case : {first second : Transducer} {joined : Joined} → JoinedOf first second joined → (out : List ℕ) {A : Type 0} (broken short done : A)
@@ -106,17 +108,14 @@ module _ (f g : List ℕ) {out : List ℕ} {joined : Joined} (t : Taken f) (t′
   -- the join is refused
   pub join-refused : {r : FileJoin} → join.numberOf (joined .outcome) ≢ 0 → r ≡ refusedWith (join.numberOf (joined .outcome)) 0 false
       → FilesJoined f g out out r
-  unfolding _▸_
   join-refused n e =
       rw e
-      (refused-so f g (λ _ _. h) n
-      (rw (past-files f g t t′ joined out, ne-eqb (join.numberOf (joined .outcome)) 0 n))
-      (no-record f g t t′) (not-second f g t t′))
+      (refused-so f g (λ _ _. h) n (past-files f g t t′ joined out (this-one _ refl n)) (no-record f g t t′) (not-second f g t t′))
 
   -- its file is written, or the buffer is short
   pub join-written : {r : FileJoin} {out′ : List ℕ} {w : Writing} → join.numberOf (joined .outcome) ≡ 0 → Wrote (joined .table) out out′ w
       → r ≡ answeredBy w → FilesJoined f g out out′ r
-  unfolding _▸_ shortNumber
+  unfolding shortNumber
   join-written {w = w} z writes e =
       let file = writeOf (joined .table) in
       let room = leb (length file) (length out) in
@@ -125,7 +124,7 @@ module _ (f g : List ℕ) {out : List ℕ} {joined : Joined} (t : Taken f) (t′
       (record {
         joined = joined;
         joins = λ _ _. h;
-        number = number ∙ sym (past-files f g t t′ joined out ∙ rw (eq-eqb (join.numberOf (joined .outcome)) 0 z));
+        number = past-files f g t t′ joined out (none-then _ z (only-one number));
         at-record = no-record f g t t′;
         second = not-second f g t t′;
         count = writes .count ∙ written-case h out 0 0 (length file) ∙ rw number (by-number room (length file) 0);

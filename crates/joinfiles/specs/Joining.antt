@@ -2,12 +2,12 @@
 -- `files-joined-determined` of proofs/JoinLaws.antt.
 use mathlib.Core.Path.{_≡_}
 use mathlib.Core.Bool.{Bool, cond, _&&_, not}
-use mathlib.Core.List.{List}
+use mathlib.Core.List.{List, [], _∷_}
 use Prim.Native.Nat.{ℕ}
 use lib.Dec.{eqb, leb}
 use lib.ListN.{length}
 use Rattle.buffers.specs.Put.{put}
-use Rattle.transducer.specs.Refusals.{tooShort}
+use Rattle.transducer.specs.Refusals.{tooShort, firstOf}
 use Rattle.tablewriter.specs.File.{writeOf}
 use Rattle.series.specs.Join as join
 use Rattle.series.specs.Join.{JoinedOf}
@@ -15,18 +15,13 @@ use Rattle.series.specs.declared.Joined.{Joined}
 use Rattle.engine.specs.Engine.{numberOf, recordOf, Taken, tableOf}
 use Rattle.joinfiles.specs.declared.FileJoin.{FileJoin}
 
-infixr 30 _▸_
--- two refusals in a row: the first where there is one, else the second
-unfoldable pub _▸_ : ℕ → ℕ → ℕ
-n ▸ m = cond (eqb n 0) m n
-
 -- the refusal of a buffer that is shorter than the file of the joined table, 0 where it is not
 unfoldable pub shortNumber : Joined → List ℕ → ℕ
 shortNumber joined out = cond (leb (length (writeOf (joined .table))) (length out)) 0 tooShort
 
 -- refused are, in this order, the first file, the second file, the join of their tables, a short buffer
 unfoldable pub joinNumber : List ℕ → List ℕ → Joined → List ℕ → ℕ
-joinNumber f g joined out = numberOf f ▸ numberOf g ▸ join.numberOf (joined .outcome) ▸ shortNumber joined out
+joinNumber f g joined out = firstOf (numberOf f ∷ numberOf g ∷ join.numberOf (joined .outcome) ∷ shortNumber joined out ∷ [])
 
 -- the record at which the first file is refused, else that at which the second is, 0 where both are taken
 unfoldable pub joinRecord : List ℕ → List ℕ → ℕ
@@ -42,7 +37,7 @@ whereDone r done refused = cond (eqb (r .number) 0) done refused
 
 -- the answer is r, and the buffer is left with out′: the file of the joined table stands at its front, or it is as it was
 pub record FilesJoined (f g out out′ : List ℕ) (r : FileJoin) : Type 0 where
-  -- the join of the two tables
+  -- the join of the two tables where both files are taken; else nothing is said of it, and it counts for nothing
   pub joined : Joined
   pub joins : Taken f → Taken g → JoinedOf (tableOf f) (tableOf g) joined
   pub number : r .number ≡ joinNumber f g joined out

@@ -16,36 +16,36 @@ pub struct FileJoin {
 pub fn join_files(first: &[u8], second: &[u8], out: &mut [u8]) -> FileJoin
     ensures { λ r. ⌜ FilesJoined (now (first .entry)) (now (second .entry)) (now (out .entry)) (now (out .exit)) r ⌝ }
 {
-    let reading = tablereader::read(first);
-    let outcome = reading.outcome;
-    let refusal = outcome.number();
-    if refusal != 0 {
+    let first_reading = tablereader::read(first);
+    let first_outcome = first_reading.outcome;
+    let first_refusal = first_outcome.number();
+    if first_refusal != 0 {
         return FileJoin {
-            number: refusal as u16,
-            record: outcome.record(),
+            number: first_refusal as u16,
+            record: first_outcome.record(),
             second: false,
             length: 0,
         };
     }
-    let reading2 = tablereader::read(second);
-    let outcome2 = reading2.outcome;
-    let refusal2 = outcome2.number();
-    if refusal2 != 0 {
+    let second_reading = tablereader::read(second);
+    let second_outcome = second_reading.outcome;
+    let second_refusal = second_outcome.number();
+    if second_refusal != 0 {
         return FileJoin {
-            number: refusal2 as u16,
-            record: outcome2.record(),
+            number: second_refusal as u16,
+            record: second_outcome.record(),
             second: true,
             length: 0,
         };
     }
-    let table = reading.table;
-    let table2 = reading2.table;
+    let table = first_reading.table;
+    let table2 = second_reading.table;
     let joined = series::join(table, table2);
-    let of_join = joined.outcome;
-    let refusal3 = of_join.number();
-    if refusal3 != 0 {
+    let join_outcome = joined.outcome;
+    let join_refusal = join_outcome.number();
+    if join_refusal != 0 {
         return FileJoin {
-            number: refusal3 as u16,
+            number: join_refusal as u16,
             record: 0,
             second: false,
             length: 0,

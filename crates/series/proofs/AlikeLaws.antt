@@ -1,5 +1,5 @@
 -- Joins of transducers that are alike are alike: what stands in others has the same joint steps there, so the joined pairs are the same, and each
--- line of the one result stands in the other. And where relations lie within others, those of the joins do. Assumes nothing.
+-- line of the one result stands in the other. Assumes nothing.
 use mathlib.Core.Path.{_≡_, refl, sym, ap, _∙_}
 use mathlib.Core.Bool.{Bool, true, false, cond, _&&_}
 use mathlib.Core.List.{Memᴰ·cast, _++_, map}
@@ -8,10 +8,9 @@ use lib.Dec.{eqb}
 use lib.ListN.{length, replicate}
 use Rattle.transducer.specs.Limits.{mostStates}
 use Rattle.transducer.specs.StateSet.{has}
-use Rattle.transducer.specs.Transition.{InputWord, OutputWord, at}
+use Rattle.transducer.specs.Transition.{at}
 use Rattle.transducer.specs.Blank.{blankTransducer}
 use Rattle.transducer.specs.Lines.{transducerOf, AllAmong}
-use Rattle.transducer.specs.Paths.{Relates}
 use Rattle.transducer.specs.Walks.{Edge}
 use Rattle.transducer.specs.Alike.{Alike}
 use Rattle.transducer.specs.declared.StateSet.{StateSet}
@@ -23,11 +22,9 @@ use Rattle.product.specs.Numbers.{pairOf, firstOf, secondOf}
 use Rattle.joints.specs.Joint.{JointPath, JoinedPair}
 use Rattle.joints.proofs.JointLaws.{Joint, together, first-alone, second-alone, joint-kind, joint-after, path-before}
 use Rattle.series.specs.Result.{stateOf, pairs, bothIn, taken, stepLine, lines, pairTransducer, resultOf}
-use Rattle.series.specs.Join.{numberOf, JoinedOf}
 use Rattle.series.specs.Composition.{AlikeJoins}
-use Rattle.series.specs.declared.Joined.{Joined}
 use Rattle.series.proofs.ResultLaws.{line-step, step-line, pair-lines}
-use Rattle.series.proofs.SeriesLaws.{taken-result, in-series, same-joined}
+use Rattle.series.proofs.SeriesLaws.{taken-result, same-joined}
 
 -- ---- what stands in others
 
@@ -151,15 +148,3 @@ alike-joins first first′ second second′ r r′ a a′ h k e e′ =
     (λ v. pair-copied (alike-within (alike-sym a)) (alike-within (alike-sym a′)))
     (λ v. pair-copied (alike-within a) (alike-within a′)) in
     rw (t .1, t′ .1, same) (results-alike (h .joined) a a′)
-
--- ---- joins within others
-
--- where the relations of two transducers lie within those of two others, so does that of their join, where both joins are taken
-pub join-within : {first first′ second second′ : Transducer} {r r′ : Joined} → JoinedOf first second r → JoinedOf first′ second′ r′
-    → numberOf (r .outcome) ≡ 0 → numberOf (r′ .outcome) ≡ 0
-    → ((x : InputWord) (y : OutputWord) → Relates first′ x y → Relates first x y)
-    → ((x : InputWord) (y : OutputWord) → Relates second′ x y → Relates second x y)
-    → (x : InputWord) (z : OutputWord) → Relates (r′ .table) x z → Relates (r .table) x z
-join-within h h′ e e′ f g x z a =
-    let c = in-series h′ .composition e′ x z .0 a in
-    in-series h .composition e x z .1 (record { y = c .y; one = f _ _ (c .one); other = g _ _ (c .other) })

@@ -1,8 +1,8 @@
 -- What holds of every answer of `join`, and that its contract determines the answer. Assumes nothing.
 use mathlib.Core.Path.{_≡_, refl, sym, ap, _∙_}
 use mathlib.Core.Bool.{Bool, true, false, cond}
-use mathlib.Core.Logic.{_↔_, _⊎_, inl, inr}
-use Prim.Native.Nat.{ℕ, _≤_, _<_}
+use mathlib.Core.Logic.{_↔_, inl, inr}
+use Prim.Native.Nat.{ℕ, _≤_}
 use native.Mathlib.Omega.{arith}
 use borrow.Author.Tests.{eqb-true, eqb-false, eq-eqb}
 use lib.Dec.{eqb}
@@ -13,7 +13,6 @@ use Rattle.transducer.specs.Blank.{blankTransducer}
 use Rattle.transducer.specs.Valid.{Valid, Shaped}
 use Rattle.transducer.specs.Lines.{transducerOf}
 use Rattle.transducer.specs.Paths.{Relates, Functional}
-use Rattle.transducer.specs.Useful.{UsefulState}
 use Rattle.transducer.specs.declared.Transducer.{Transducer}
 use Rattle.transducer.proofs.Bools.{same-flag}
 use Rattle.transducer.proofs.BlankLaws.{blank-relates, blank-valid, blank-shaped}
@@ -21,7 +20,7 @@ use Rattle.product.specs.Numbers.{firstOf, secondOf}
 use Rattle.joints.specs.Joint.{JoinedPair}
 use Rattle.series.specs.Result.{pairs, pairTransducer, resultOf}
 use Rattle.series.specs.Join.{refusalOf, joinable, numberOf, JoinedOf}
-use Rattle.series.specs.Composition.{Composes, InSeries}
+use Rattle.series.specs.Composition.{Composes, NoneInVain, InSeries}
 use Rattle.series.specs.declared.Outcome.{Outcome}
 use Rattle.series.specs.declared.Outcome.the-variants.{Made, Invalid, MoreThanOneCode, ManyPairs, ManyTransitions}
 use Rattle.series.specs.declared.Joined.{Joined}
@@ -67,10 +66,6 @@ module _ (first second : Transducer) (joined : ℕ → Bool) where
 
 -- ---- every answer
 
--- t is blank, or every state of it is useful
-abbrev pub NoneInVain : Transducer → Type 0
-NoneInVain t = (t ≡ blankTransducer) ⊎ ((q : ℕ) → q < t .states → UsefulState t q)
-
 module _ {first second : Transducer} {r : Joined} (h : JoinedOf first second r) where
   -- where nothing is refused it is the result
   pub taken-result : numberOf (r .outcome) ≡ 0 → Taken first second (h .joined) × (r .table ≡ resultOf first second (h .joined))
@@ -87,14 +82,14 @@ module _ {first second : Transducer} {r : Joined} (h : JoinedOf first second r) 
       go false e = refused
 
   -- it has no state in vain
-  pub joined-useful : NoneInVain (r .table)
+  joined-useful : NoneInVain (r .table)
   unfolding pairTransducer transducerOf
   joined-useful =
       answered NoneInVain (inl refl)
       (λ t. result-either first second (h .joined) NoneInVain (λ _. inl refl)
       (λ _. inr (pair-useful first second (h .joined) (t .valid) (t .valid′) (h .exactly (t .joins)) (t .few-pairs))))
 
-  -- it composes, keeps what is functional and keeps the rules
+  -- it composes, keeps what is functional and keeps the rules, and has no state in vain
   pub in-series : InSeries first second r
   in-series =
       record {
@@ -105,6 +100,7 @@ module _ {first second : Transducer} {r : Joined} (h : JoinedOf first second r) 
             let c = result-composes first second (h .joined) t (h .exactly (t .joins)) x in
             composed-functional f g (c y .0 a) (c z .0 b));
         valid = answered Valid blank-valid (result-valid first second (h .joined));
+        useful = joined-useful;
       }
     where
       -- the composition of two functional relations is one

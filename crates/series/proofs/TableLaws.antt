@@ -25,7 +25,7 @@ use Rattle.series.specs.Parts.{rowOf, rowsOf, stepAt, stepsOf, Listed, N
 use Rattle.series.proofs.GatherLaws.{gather-at, picked-at, getD-mapped}
 use Rattle.series.proofs.StateLaws.{state-order}
 use Rattle.series.proofs.TestLaws.{test-exactly}
-use Rattle.series.proofs.OrderLaws.{pair-in, label-in, steps-lines, many-steps}
+use Rattle.series.proofs.OrderLaws.{pair-of-step, label-in, steps-lines, many-steps}
 
 -- an array of clear transitions
 pub all-clear : {v : Transition} (n : ℕ) → v ≡ clearTransition
@@ -68,8 +68,8 @@ module _ {first second : Transducer} {left right : List ℕ} (c : Coupled first 
       let is = p .1 in
       rw is
       (record {
-        pair = rw (pair-in v l (g .i) low (omega (arith, g .low))) h;
-        step = rw (pair-in v l (g .i) low (omega (arith, g .low)), label-in v l (g .i) low (omega (arith, g .low))) s;
+        pair = rw (pair-of-step v l (g .i) low (omega (arith, g .low))) h;
+        step = rw (pair-of-step v l (g .i) low (omega (arith, g .low)), label-in v l (g .i) low (omega (arith, g .low))) s;
       })
 
   steps-placed : (k : ℕ) → List·Memᴰ k (stepsOf left right joined) → Placed left right k
@@ -85,7 +85,7 @@ module _ {first second : Transducer} {left right : List ℕ} (c : Coupled first 
       from v h false m = absurd (List·Memᴰ·not-nil m)
 
   module _ {list : List ℕ} {k : ℕ} (l : Listed list k (stepsOf left right joined)) (most : k ≤ mostTransitions) where
-    -- there are as many lines as steps
+    -- k is the number of the lines
     pub count-is : k ≡ length (lines first second joined)
     count-is = l .exact most ∙ many-steps c joined
 

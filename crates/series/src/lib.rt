@@ -1,5 +1,5 @@
-// Two transducers in series (document 02, job 3): what the first writes the second reads. The contract of `join` cites `JoinedOf` of specs/Join.antt; that
-// the result's relation is the composition of the two is `InSeries` of specs/Composition.antt.
+// Two transducers in series (document 02, job 3): what the first writes the second reads. The contract of `join` cites `JoinedOf` of
+// specs/Join.antt; that the result's relation is the composition of the two is `InSeries` of specs/Composition.antt.
 ghost use mathlib.Core.Path.{_≡_};
 ghost use mathlib.Core.Bool.{true, false};
 ghost use lib.ListN.{length};
@@ -9,7 +9,7 @@ ghost use Rattle.product.specs.Numbers.{mostPairs};
 ghost use Rattle.joints.specs.Joint.{oneCode};
 ghost use Rattle.joints.specs.Found.{among};
 ghost use Rattle.series.specs.Join.{numberOf, JoinedOf};
-ghost use Rattle.series.specs.Parts.{MadeOf, Refused};
+ghost use Rattle.series.specs.Parts.{MadeOf, WithBlank};
 use product::machine;
 use product::machine::PLACES;
 use product::steps::PAIRS;
@@ -55,13 +55,13 @@ pub fn join(first: Transducer, second: Transducer) -> Joined
     ensures { λ r. ⌜ JoinedOf first second r ⌝ }
 {
     if !transducer::accepted(first) {
-        return refused(Outcome::Invalid);
+        return with_blank(Outcome::Invalid);
     }
     if !transducer::accepted(second) {
-        return refused(Outcome::Invalid);
+        return with_blank(Outcome::Invalid);
     }
     if !one_code(first) {
-        return refused(Outcome::MoreThanOneCode);
+        return with_blank(Outcome::MoreThanOneCode);
     }
     let mut left = [0u16; PLACES];
     machine::by_output(first, &mut left);
@@ -72,9 +72,9 @@ pub fn join(first: Transducer, second: Transducer) -> Joined
     make(first, second, &left, &right, &joined)
 }
 
-// A refusal, or that there is no joined pair, with the blank transducer.
-fn refused(outcome: Outcome) -> Joined
-    ensures { λ r. ⌜ Refused outcome r ⌝ }
+// A refusal, or that there is no joined pair: the outcome with the blank transducer.
+fn with_blank(outcome: Outcome) -> Joined
+    ensures { λ r. ⌜ WithBlank outcome r ⌝ }
 {
     let table = transducer::blank();
     Joined { outcome, table }
@@ -114,15 +114,15 @@ fn make(
     let mut states = [0u32; PAIRS];
     let n = table::number(joined, &mut states);
     if (limits::STATES as u32) < n {
-        return refused(Outcome::ManyPairs);
+        return with_blank(Outcome::ManyPairs);
     }
     let mut steps = [0u32; limits::TRANSITIONS];
     let k = listing::list(left, right, joined, &mut steps);
     if (limits::TRANSITIONS as u32) < k {
-        return refused(Outcome::ManyTransitions);
+        return with_blank(Outcome::ManyTransitions);
     }
     if n == 0 {
-        return refused(Outcome::Made);
+        return with_blank(Outcome::Made);
     }
     let table = table::table(first, second, left, right, joined, &states, n, &steps, k);
     Joined {

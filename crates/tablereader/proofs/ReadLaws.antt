@@ -6,11 +6,11 @@ use mathlib.Core.List.{List}
 use Prim.Native.Nat.{ℕ, zero, suc, _+_, _≤_, _<_}
 use native.Mathlib.Omega.{arith}
 use lib.Dec.{eqb}
-use lib.ListN.{length, getD, length-set, length-replicate, getD-replicate}
+use lib.ListN.{length, getD, length-set}
 use Rattle.transducer.specs.Limits.{mostStates, mostTransitions, mostOutputs}
 use Rattle.transducer.specs.Refusals.{ended, wrongByte, notANumber, outOfRange, notRising, bytesFollow}
 use Rattle.transducer.specs.Transition.{outside}
-use Rattle.transducer.specs.Blank.{clearTransition, blankTransducer}
+use Rattle.transducer.specs.Blank.{blankTransducer}
 use Rattle.transducer.specs.Valid.{Shaped}
 use Rattle.transducer.specs.declared.StateSet.{StateSet}
 use Rattle.transducer.specs.declared.Transition.{Transition}
@@ -41,12 +41,7 @@ unfolding transitionOf
 read-long values = length-firsts mostOutputs _
 
 blank-sized : Sized (blankTransducer .transitions)
-unfolding blankTransducer
-blank-sized =
-    record {
-      size = length-replicate mostTransitions clearTransition;
-      outputs = λ j h. rw (getD-replicate mostTransitions j clearTransition outside h) refl;
-    }
+blank-sized = record { size = blank-shaped .transitions; outputs = blank-shaped .outputs }
 
 transitions-sized : (k : ℕ) (text : List ℕ) (n at rec i : ℕ) (outcome : Outcome) (l : List Transition) → i + k ≤ mostTransitions → Sized l
     → Sized (readTransitions k text n at rec i outcome l .transitions)

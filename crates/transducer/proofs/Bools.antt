@@ -49,6 +49,16 @@ and-right false b e = let z : _≡_ {A = ℕ} 0 1 = cc in absurd (omega arith)
 pub and-both : {a b : Bool} → a ≡ true → b ≡ true → (a && b) ≡ true
 and-both p q = rw (p, q)
 
+-- one that is false makes both false
+pub and-false : (b : Bool) → (b && false) ≡ false
+and-false true = refl
+and-false false = refl
+
+-- a test that is not true is false
+pub false-or : (b : Bool) → (b ≡ true → ⊥) → b ≡ false
+false-or true h = absurd (h refl)
+false-or false h = refl
+
 -- a chain of four, in the grouping of `&`
 pub and-four : (a b c d : Bool) → (a && b && c && d) ≡ true → (a ≡ true) × (b ≡ true) × (c ≡ true) × (d ≡ true)
 and-four a b c d h =

@@ -1,6 +1,7 @@
 -- Laws of the definitions, for the crates above.
 pub mod Bools
 pub mod Facts
+pub mod RefusalLaws
 pub mod AcceptedLaws
 pub mod CodeLaws
 pub mod StateSetLaws

@@ -1,6 +1,9 @@
 -- The numbers of the refusals: those of document 01, "What a refused call hands over", from 13 on those of document 02, and the one that the library
--- adds. Each stands here once.
+-- adds. Each stands here once. And of several refusals, which one counts.
+use mathlib.Core.Bool.{cond}
+use mathlib.Core.List.{List, [], _∷_}
 use Prim.Native.Nat.{ℕ}
+use lib.Dec.{eqb}
 
 -- the text ends inside a record or before it
 abbrev pub ended : ℕ
@@ -73,3 +76,8 @@ manyTransitions = 17
 -- an answer list is too short: a refusal of the library's, which the documents do not have
 abbrev pub answerTooShort : ℕ
 answerTooShort = 100
+
+-- the first of the faults that is one, or 0
+unfoldable pub firstOf : List ℕ → ℕ
+firstOf [] = 0
+firstOf (fault ∷ faults) = cond (eqb fault 0) (firstOf faults) fault

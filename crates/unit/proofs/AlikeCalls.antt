@@ -6,9 +6,10 @@ use mathlib.Core.List.{List, [], _∷_}
 use Prim.Native.Nat.{ℕ, _≤_}
 use native.Mathlib.Omega.{arith}
 use lib.ListN.{length, take}
-use Rattle.transducer.specs.Refusals.{tooShort}
+use Rattle.transducer.specs.Refusals.{tooShort, firstOf}
 use Rattle.transducer.specs.Paths.{Functional}
 use Rattle.transducer.specs.Alike.{Alike}
+use Rattle.transducer.proofs.RefusalLaws.{none-of}
 use Rattle.wordsearch.specs.Limits.{mostWritten}
 use Rattle.witness.specs.Showing.{Buffers}
 use Rattle.functionality.specs.Decided.{fullOf}
@@ -18,9 +19,9 @@ use Rattle.engine.specs.declared.Judgement.{Judgement}
 use Rattle.engine.specs.declared.FileTranslation.{FileTranslation}
 use Rattle.engine.proofs.Demand3.{demand-3, file-same}
 use Rattle.answers.specs.Answers.{refusalCode, fileCode, flagOf, translateAnswer}
-use Rattle.unit.specs.Calls.{firstOf, verdictCode, VerdictGiven, TranslationGiven}
+use Rattle.unit.specs.Calls.{verdictCode, VerdictGiven, TranslationGiven}
 use Rattle.unit.specs.Laws.{SameTranslation}
-use Rattle.unit.proofs.Codes.{none-of, code-taken, front-two}
+use Rattle.unit.proofs.Codes.{code-taken, front-two}
 use Rattle.unit.proofs.WordCalls.{length-given, told}
 
 -- ---- the verdict

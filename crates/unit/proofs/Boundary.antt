@@ -12,6 +12,7 @@ use Rattle.buffers.specs.Put.{put}
 use Rattle.transducer.specs.Refusals.{answerTooShort}
 use Rattle.transducer.specs.Paths.{Functional}
 use Rattle.transducer.proofs.Bools.{le-or-lt, same-flag}
+use Rattle.transducer.proofs.RefusalLaws.{this-one}
 use Rattle.witness.specs.Showing.{Buffers}
 use Rattle.functionality.proofs.DecidedLaws.{useful-count-unique}
 use Rattle.engine.specs.Engine.{Taken, tableOf}
@@ -19,12 +20,12 @@ use Rattle.engine.specs.declared.Judgement.{Judgement}
 use Rattle.engine.specs.declared.FileTranslation.{FileTranslation}
 use Rattle.engine.proofs.EngineLaws.{judged-determined, file-translated-determined}
 use Rattle.joinfiles.specs.declared.FileJoin.{FileJoin}
-use Rattle.joinfiles.proofs.JoinLaws.{files-joined-determined}
+use Rattle.joinfiles.proofs.JoinLaws.{joined-number, files-joined-determined}
 use Rattle.answers.specs.Answers.{refusalCode, flagOf, numbersOf, translateAnswer, joinAnswer}
 use Rattle.unit.specs.Calls.{VerdictGiven, translateCode, TranslationGiven, AnswerIn, AcceptsGiven}
 use Rattle.unit.specs.Calls.{Flagged, StatesGiven, PairsGiven, DifferenceGiven, FileGiven, joinedCode, JoinGiven}
 use Rattle.unit.specs.Laws.{SameVerdict, Boundary}
-use Rattle.unit.proofs.Codes.{this-one, no-room, taken-code, code-taken, front, front-two}
+use Rattle.unit.proofs.Codes.{no-room, taken-code, code-taken, front, front-two}
 use Rattle.unit.proofs.WordCalls.{accepts-agreement}
 use Rattle.unit.proofs.AlikeCalls.{alike-verdict, alike-translation}
 use Rattle.unit.proofs.JoinCalls.{join-number-told, join-record-told, second-told, few-records, joined-file, alike-join}
@@ -215,6 +216,7 @@ boundary =
       join-number-told = join-number-told;
       join-record-told = join-record-told;
       second-told = second-told;
+      small-number = joined-number;
       few-records = few-records;
       taken-exactly = λ f. (code-taken f, taken-code f);
       verdict = verdict-determined;

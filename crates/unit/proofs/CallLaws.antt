@@ -8,7 +8,8 @@ use native.Mathlib.Decide.{ℕ-discrete}
 use native.Mathlib.Omega.{arith}
 use lib.Dec.{eqb}
 use lib.ListN.{length}
-use Rattle.transducer.specs.Refusals.{tooShort, answerTooShort}
+use Rattle.transducer.specs.Refusals.{tooShort, answerTooShort, firstOf}
+use Rattle.transducer.proofs.RefusalLaws.{this-one, none-then, only-one}
 use Rattle.tablereader.proofs.Validity.{read-accepted}
 use Rattle.witness.specs.Showing.{Buffers}
 use Rattle.functionality.specs.Decided.{fullOf, refusalOf}
@@ -18,8 +19,8 @@ use Rattle.engine.specs.declared.Judgement.{Judgement}
 use Rattle.engine.specs.declared.FileTranslation.{FileTranslation}
 use Rattle.answers.specs.Answers.{refusalCode, fileCode, numbersOf, Given}
 use Rattle.answers.specs.Answers.{verdictAnswer, translateAnswer}
-use Rattle.unit.specs.Calls.{firstOf, verdictCode, VerdictGiven, translateCode, TranslationGiven}
-use Rattle.unit.proofs.Codes.{this-one, none-then, only-one, room, no-room, no-record, code-zero, taken-code, code-taken}
+use Rattle.unit.specs.Calls.{verdictCode, VerdictGiven, translateCode, TranslationGiven}
+use Rattle.unit.proofs.Codes.{room, no-room, no-record, code-zero, taken-code, code-taken}
 
 -- ---- the verdict
 

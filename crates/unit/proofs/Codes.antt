@@ -1,11 +1,9 @@
--- What a call returns: the first of its refusals, or 0; and the first numbers that it leaves in the answer list. Assumes nothing.
-use mathlib.Core.Path.{_≡_, refl, sym, ap, _∙_}
+-- What a call returns for a list that lacks places and for a file; and the first numbers that it leaves in the answer list. Assumes nothing.
+use mathlib.Core.Path.{_≡_, refl, ap, _∙_}
 use mathlib.Core.List.{List, [], _∷_}
-use mathlib.Core.Logic.{_≢_}
 use Prim.Native.Nat.{ℕ, _≤_, _<_}
-use native.Mathlib.Decide.{ℕ-discrete}
 use native.Mathlib.Omega.{arith}
-use borrow.Author.Tests.{eq-eqb, ne-eqb, lt-ltb, le-ltb}
+use borrow.Author.Tests.{lt-ltb, le-ltb}
 use lib.ListN.{length, getD, take}
 use Rattle.buffers.specs.Put.{put}
 use Rattle.tablereader.specs.Outcome as outcome
@@ -15,41 +13,8 @@ use Rattle.tablereader.proofs.Outcomes.{taken-number}
 use Rattle.engine.specs.Engine.{Taken}
 use Rattle.engine.specs.declared.Judgement.{Judgement}
 use Rattle.answers.specs.Answers.{refusalCode, fileCode, roomFault, flagOf, numbersOf}
-use Rattle.unit.specs.Calls.{firstOf}
 
--- ---- the first refusal
-
--- it is this one
-pub this-one : (faults : List ℕ) {r fault : ℕ} → r ≡ fault → r ≢ 0 → r ≡ firstOf (fault ∷ faults)
-unfolding firstOf
-this-one faults {fault = fault} e n = rw (ne-eqb fault 0 (λ z. n (e ∙ z))) e
-
--- it is none before the others
-pub none-then : (faults : List ℕ) {r fault : ℕ} → fault ≡ 0 → r ≡ firstOf faults → r ≡ firstOf (fault ∷ faults)
-unfolding firstOf
-none-then faults {fault = fault} z e = rw (eq-eqb fault 0 z) e
-
--- there is none
-pub no-more : 0 ≡ firstOf []
-unfolding firstOf
-no-more = refl
-
--- there is only one
-pub only-one : {r fault : ℕ} → r ≡ fault → r ≡ firstOf (fault ∷ [])
-only-one {r} {fault} e = go (ℕ-discrete r 0)
-  where
-    go : Dec (r ≡ 0) → r ≡ firstOf (fault ∷ [])
-    go (yes z) = none-then _ (sym e ∙ z) (z ∙ no-more)
-    go (no n) = this-one _ e n
-
--- where it is 0 none of them is one
-pub none-of : (faults : List ℕ) {fault : ℕ} → firstOf (fault ∷ faults) ≡ 0 → (fault ≡ 0) × (firstOf faults ≡ 0)
-unfolding firstOf
-none-of faults {fault} z = go (ℕ-discrete fault 0)
-  where
-    go : Dec (fault ≡ 0) → (fault ≡ 0) × (firstOf faults ≡ 0)
-    go (yes e) = (e, none-then faults e refl ∙ z)
-    go (no n) = absurd (n (this-one faults refl n ∙ z))
+-- ---- the places
 
 -- a list that has the places is no refusal
 pub room : (n : ℕ) (list : List ℕ) (fault : ℕ) → n ≤ length list → roomFault n list fault ≡ 0

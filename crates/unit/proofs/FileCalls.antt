@@ -13,6 +13,7 @@ use Rattle.buffers.specs.Put.{put}
 use Rattle.words.specs.declared.Comparison.{Comparison}
 use Rattle.transducer.specs.Refusals.{tooShort, invalid, answerTooShort}
 use Rattle.transducer.proofs.Bools.{le-or-lt}
+use Rattle.transducer.proofs.RefusalLaws.{this-one, none-then, only-one}
 use Rattle.tablereader.specs.Reader.{readOf}
 use Rattle.tablereader.specs.declared.Reading.{Reading}
 use Rattle.tablereader.proofs.Outcomes.{taken-number}
@@ -27,7 +28,7 @@ use Rattle.engine.specs.Engine.{Taken, tableOf}
 use Rattle.answers.specs.Answers.{fileCode, roomFault, kindOf, Given}
 use Rattle.answers.specs.Answers.{differenceAnswer, writeAnswer}
 use Rattle.unit.specs.Calls.{DifferenceGiven, writeCode, FileGiven}
-use Rattle.unit.proofs.Codes.{this-one, none-then, only-one, room, no-room, no-record, code-taken}
+use Rattle.unit.proofs.Codes.{room, no-room, no-record, code-taken}
 
 -- ---- the difference
 

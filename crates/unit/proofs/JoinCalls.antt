@@ -10,6 +10,7 @@ use lib.ListN.{length, getD, take}
 use Rattle.transducer.specs.Refusals.{answerTooShort}
 use Rattle.transducer.specs.Alike.{Alike}
 use Rattle.transducer.proofs.Bools.{le-or-lt}
+use Rattle.transducer.proofs.RefusalLaws.{this-one, none-then, only-one, none-of}
 use Rattle.engine.specs.Engine.{tableOf}
 use Rattle.joinfiles.specs.Joining.{FilesJoined}
 use Rattle.joinfiles.specs.Series.{FileInSeries}
@@ -17,7 +18,7 @@ use Rattle.joinfiles.specs.declared.FileJoin.{FileJoin}
 use Rattle.joinfiles.proofs.JoinLaws.{joined-record, refused-leaves, done-record, done-second, files-in-series, alike-files-joined}
 use Rattle.answers.specs.Answers.{refusalCode, secondFlag, recordsTold, joinCode, joinAnswer, flagOf, JoinEnded}
 use Rattle.unit.specs.Calls.{joinedCode, JoinGiven}
-use Rattle.unit.proofs.Codes.{this-one, none-then, only-one, none-of, room, no-room, no-record, code-zero, front}
+use Rattle.unit.proofs.Codes.{room, no-room, no-record, code-zero, front}
 
 -- ---- what can be told from a refusal
 

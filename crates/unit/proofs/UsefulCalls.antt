@@ -9,6 +9,7 @@ use Rattle.buffers.specs.Put.{put}
 use Rattle.transducer.specs.Limits.{mostStates}
 use Rattle.transducer.specs.Refusals.{tooShort, answerTooShort}
 use Rattle.transducer.specs.Useful.{UsefulPair}
+use Rattle.transducer.proofs.RefusalLaws.{this-one, none-then, no-more}
 use Rattle.transducer.proofs.StateSetLaws.{has-below}
 use Rattle.tablereader.specs.Reader.{readOf}
 use Rattle.tablereader.specs.declared.Reading.{Reading}
@@ -25,7 +26,7 @@ use Rattle.engine.specs.Engine.{tableOf}
 use Rattle.answers.specs.Answers.{fileCode, flagOf}
 use Rattle.answers.specs.Answers.{pairsAnswer}
 use Rattle.unit.specs.Calls.{Flagged, statesCode, StatesGiven, pairsCode, PairsGiven}
-use Rattle.unit.proofs.Codes.{this-one, none-then, no-more, room, no-room}
+use Rattle.unit.proofs.Codes.{room, no-room}
 
 -- ---- useful states
 

@@ -9,6 +9,7 @@ use lib.ListN.{length, getD}
 use Rattle.buffers.specs.Put.{put}
 use Rattle.transducer.specs.Refusals.{answerTooShort}
 use Rattle.transducer.specs.Paths.{Functional}
+use Rattle.transducer.proofs.RefusalLaws.{this-one, none-then, only-one, none-of}
 use Rattle.tablereader.specs.Reader.{readOf}
 use Rattle.tablereader.specs.declared.Reading.{Reading}
 use Rattle.wordsearch.specs.Limits.{mostWritten}
@@ -26,7 +27,7 @@ use Rattle.answers.specs.Answers.{refusalCode, fileCode, flagOf, Given}
 use Rattle.answers.specs.Answers.{translateAnswer, acceptsAnswer}
 use Rattle.unit.specs.Calls.{translateCode, TranslationGiven, acceptsCode, AnswerIn, AcceptsGiven}
 use Rattle.unit.specs.Laws.{OutputGiven}
-use Rattle.unit.proofs.Codes.{this-one, none-then, only-one, none-of, room, no-room, no-record, code-zero, code-taken, front}
+use Rattle.unit.proofs.Codes.{room, no-room, no-record, code-zero, code-taken, front}
 
 -- ---- how the contract is met
 

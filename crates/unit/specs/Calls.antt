@@ -5,12 +5,11 @@ use mathlib.Core.Bool.{Bool, true, false, cond}
 use mathlib.Core.List.{List, [], _∷_, map}
 use mathlib.Core.Logic.{_≢_, _↔_}
 use Prim.Native.Nat.{ℕ, _≤_, _<_}
-use lib.Dec.{eqb}
 use lib.ListN.{length, getD}
 use Rattle.words.specs.Difference.{sharedOf, differenceOf}
 use Rattle.buffers.specs.Put.{put}
 use Rattle.transducer.specs.Limits.{mostStates}
-use Rattle.transducer.specs.Refusals.{tooShort, answerTooShort}
+use Rattle.transducer.specs.Refusals.{tooShort, answerTooShort, firstOf}
 use Rattle.transducer.specs.Transition.{wordOf, outputWordOf}
 use Rattle.transducer.specs.Paths.{Relates}
 use Rattle.transducer.specs.Useful.{UsefulState, UsefulPair}
@@ -26,11 +25,6 @@ use Rattle.joinfiles.specs.Joining.{FilesJoined}
 use Rattle.joinfiles.specs.declared.FileJoin.{FileJoin}
 use Rattle.answers.specs.Answers.{refusalCode, fileCode, joinCode, roomFault, flagOf, kindOf, numbersOf}
 use Rattle.answers.specs.Answers.{verdictAnswer, translateAnswer, acceptsAnswer, pairsAnswer, differenceAnswer, writeAnswer, joinAnswer}
-
--- the first of the faults that is one, or 0
-unfoldable pub firstOf : List ℕ → ℕ
-firstOf [] = 0
-firstOf (fault ∷ faults) = cond (eqb fault 0) (firstOf faults) fault
 
 -- Each record says the same three things: what is returned, that a refusal (not 0) changes nothing that is lent, and what is done where 0 is
 -- returned.

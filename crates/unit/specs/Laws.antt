@@ -47,6 +47,7 @@ pub record Boundary : Type 0 where
   pub join-number-told : (j : FileJoin) → j .number < 65536 → joinCode j % 65536 ≡ j .number
   pub join-record-told : (j : FileJoin) → j .number < 65536 → j .«record» < recordsTold → joinCode j / 65536 % recordsTold ≡ j .«record»
   pub second-told : (j : FileJoin) → j .number < 65536 → j .«record» < recordsTold → joinCode j / secondFlag ≡ flagOf (j .second)
+  pub small-number : {f g out out′ : List ℕ} {j : FileJoin} → FilesJoined f g out out′ j → j .number < 65536
   pub few-records : {f g out out′ : List ℕ} {j : FileJoin} → FilesJoined f g out out′ j → j .«record» < recordsTold
   -- `yotselina_check` returns 0 exactly where the file is taken
   pub taken-exactly : (f : List ℕ) → (fileCode f ≡ 0) ↔ Taken f
@@ -78,8 +79,8 @@ pub record Boundary : Type 0 where
       → (r₁ ≡ r₂) × (out₁ ≡ out₂) × (a₁ ≡ a₂)
   pub join : {f g out out₁ out₂ a a₁ a₂ : List ℕ} {r₁ r₂ : ℕ} → JoinGiven f g out out₁ a a₁ r₁ → JoinGiven f g out out₂ a a₂ r₂
       → (r₁ ≡ r₂) × (out₁ ≡ out₂) × (a₁ ≡ a₂)
-  -- document 02, job 3, from bytes to bytes: the file that is written is taken, its table's relation is the composition of the two, and two single
-  -- tables give a single one
+  -- document 02, job 3, from bytes to bytes: the file that is written is taken, and read to the join of the two tables; its relation is the
+  -- composition of the two, and two single tables give a single one
   pub joined-file : {f g out out′ a a′ : List ℕ} {r : ℕ} → JoinGiven f g out out′ a a′ r → r ≡ 0 → FileInSeries f g (take (getD a′ 0 0) out′)
   -- files whose tables are alike are joined to files whose tables are alike, where neither call is refused
   pub alike-join : {f g out out′ a a′ f₂ g₂ d d′ c c′ : List ℕ} {r s : ℕ} → Alike (tableOf f) (tableOf f₂) → Alike (tableOf g) (tableOf g₂)

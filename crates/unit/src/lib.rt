@@ -1,6 +1,6 @@
-// The library that a unit links: the documents' calls for C, over lists and numbers only. Each returns 0, or a refusal as one number (`refusalCode` of
-// the crate `answers`, in a join of two files `joinCode`); a refusal changes no list. Where the answer is several numbers they go to the front of the
-// list `answer`, whose length is looked at before anything else. The contracts cite specs/Calls.antt; specs/Laws.antt says what they determine.
+// The library that a unit links: the documents' calls for C, over lists and numbers only. Each returns 0, or a refusal as one number (`refusalCode`
+// of the crate `answers`, in a join of two files `joinCode`); a refusal changes no list. Where the answer is several numbers they go to the front of
+// the list `answer`, whose length is looked at before anything else. The contracts cite specs/Calls.antt; specs/Laws.antt says what they determine.
 ghost use mathlib.Core.Path.{_≡_};
 ghost use Rattle.witness.specs.Showing.{buffersOf};
 ghost use Rattle.answers.specs.Answers.{fileCode};
@@ -74,7 +74,8 @@ pub extern "C" fn yotselina_translate(
     answers::give(answer, &numbers, translation.number, translation.record)
 }
 
-// Whether some accepting path of the transducer of a table file reads the word `input` and writes the word `output`; the answer is 1 for yes, 0 for no.
+// Whether some accepting path of the transducer of a table file reads the word `input` and writes the word `output`; the answer is 1 for yes, 0 for
+// no.
 #[no_mangle]
 pub extern "C" fn yotselina_accepts(
     file: &[u8],
@@ -186,8 +187,8 @@ pub extern "C" fn yotselina_write(file: &[u8], out: &mut [u8], answer: &mut [u64
     answers::give(answer, &numbers, writing.number() as u16, 0)
 }
 
-// Reads two table files and writes the file of their tables in series to the front of `out`; the answer is the byte count. A refusal of the second file
-// has bit 31 set.
+// Reads two table files and writes the file of their tables in series to the front of `out`; the answer is the byte count. A refusal of the second
+// file has bit 31 set.
 #[no_mangle]
 pub extern "C" fn yotselina_join(
     first: &[u8],

@@ -48,14 +48,14 @@ one-code-first c = sym (c .before .one-code .ensures) ∙ not-false _ (c .if3 .l
 -- ---- needs
 
 returns : tie.Need-returns
-returns c = join-invalid (rw (failed (c .before .before .accepted .ensures) (c .before .if1 .taken))) (c .refused .ensures)
+returns c = join-invalid (rw (failed (c .before .before .accepted .ensures) (c .before .if1 .taken))) (c .with-blank .ensures)
 
 returns-2 : tie.Need-returns-2
 returns-2 c =
     let t = c .before in
     let e = t .before .before in
     join-invalid (rw (passed (e .before .accepted .ensures) (e .if1 .left), failed (t .before .accepted2 .ensures) (t .if2 .taken)))
-    (c .refused2 .ensures)
+    (c .with-blank2 .ensures)
 
 one-code-requires : tie.Need-one-code-requires
 one-code-requires c κs = accepted-valid _ (accepted-first c)
@@ -64,7 +64,7 @@ returns-3 : tie.Need-returns-3
 returns-3 c =
     let t = c .before in
     let e = t .before .before in
-    join-long (accepted-first e) (accepted-second e) (sym (t .before .one-code .ensures) ∙ not-true _ (t .if3 .taken)) (c .refused3 .ensures)
+    join-long (accepted-first e) (accepted-second e) (sym (t .before .one-code .ensures) ∙ not-true _ (t .if3 .taken)) (c .with-blank3 .ensures)
 
 by-output-requires : tie.Need-by-output-requires
 by-output-requires c κs = (accepted-valid _ (accepted-first (tested (c .before))), search needs)

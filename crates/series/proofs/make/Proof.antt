@@ -58,7 +58,7 @@ returns c =
     let n = numbered (c .before .before) in
     let s = start n in
     made-pairs (s .args .first) (s .args .second) (joined-by s) (omega (arith, n .number .ensures .count, c .before .if1 .taken))
-    (c .refused .ensures)
+    (c .with-blank .ensures)
 
 list-requires : tie.Need-list-requires
 list-requires c κs =
@@ -72,7 +72,7 @@ returns-2 c =
     let n = counted l in
     let s = start n in
     made-many (s .args .first) (s .args .second) (joined-by s) (omega (arith, n .number .ensures .count, few (l .before) .if1 .left))
-    (omega (arith, listed-all (l .list .ensures) .more (c .before .if2 .taken), many s)) (c .refused2 .ensures)
+    (omega (arith, listed-all (l .list .ensures) .more (c .before .if2 .taken), many s)) (c .with-blank2 .ensures)
 
 returns-3 : tie.Need-returns-3
 returns-3 c =
@@ -84,8 +84,8 @@ returns-3 c =
     let count = n .number .ensures .count in
     made-result (a .first) (a .second) (joined-by s) (omega (arith, count, few (l .before) .if1 .left))
     (omega (arith, listed-all (l .list .ensures) .exact (e .if2 .left), many s, e .if2 .left))
-    (c .refused3 .ensures .outcome)
-    (c .refused3 .ensures .table ∙ result-blank (a .first) (a .second) (joined-by s) (sym count ∙ c .before .if3 .taken))
+    (c .with-blank3 .ensures .outcome)
+    (c .with-blank3 .ensures .table ∙ result-blank (a .first) (a .second) (joined-by s) (sym count ∙ c .before .if3 .taken))
 
 table-requires : tie.Need-table-requires
 table-requires c κs =
