@@ -4,6 +4,7 @@ pub mod RoundTrip
 pub mod RangeLaws
 pub mod FilledLaws
 pub mod RecordTrip
+pub mod Behind
 pub mod Parts
 pub mod Walk
 pub mod Record

@@ -1,6 +1,5 @@
--- The round trips, for the crates above: `RoundTrips` has them all; `Repeats`: a repeated line is kept. The first five serve this crate's own proofs, from
+-- The round trips, for the crates above: `RoundTrips` has them all; `Repeats`: a repeated line is kept. The first four serve this crate's own proofs, from
 -- records up.
-mod TakenLaws
 mod Rising
 mod Filled
 mod StateRecords

@@ -26,7 +26,7 @@ use Rattle.tablereader.specs.Record.{headerRanges, headerSize, stateSize}
 use Rattle.tablereader.specs.Header.{countsOf, headerOf}
 use Rattle.tablereader.specs.States.{statesFrom}
 use Rattle.tablereader.specs.Transitions.{transitionsFrom}
-use Rattle.tablereader.specs.Reader.{endFault, startsOf, finalsOf, transitionsOf, outcomeWith, tableWith, readOf}
+use Rattle.tablereader.specs.Reader.{endFault, startsOf, finalsOf, transitionsOf, recordsWith, outcomeWith, tableWith, readOf}
 use Rattle.tablereader.specs.declared.header.Header.{Header}
 use Rattle.tablereader.specs.declared.Outcome.the-variants.{Taken}
 use Rattle.tablewriter.specs.File.{statesOf, sizeOf, stateBytes, transitionBytesBelow, headerBytes, writeOf}
@@ -139,7 +139,7 @@ module _ (t : Transducer) (v : Valid t) (s : Shaped t) (text : List ℕ) (is : t
       simp (le-ltb (all-read .end) (length text) (omega arith), le-ltb mostBytes (length text) most)
 
   outcome-taken : outcomeWith text (counts t) ≡ Taken
-  unfolding outcomeWith startsOf finalsOf transitionsOf outcomeOf _▸_
+  unfolding outcomeWith recordsWith startsOf finalsOf transitionsOf outcomeOf _▸_
   outcome-taken = rw (starts-read .read, finals-read .read, all-read .read, ends)
 
   table-same : tableWith text (counts t) ≡ t

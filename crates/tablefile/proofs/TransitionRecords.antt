@@ -26,8 +26,8 @@ use Rattle.tablereader.specs.Transitions.{countAt, transitionRecord, codeOf, tr
 use Rattle.tablereader.specs.declared.Outcome.{Outcome}
 use Rattle.tablereader.specs.declared.Outcome.the-variants.{Taken}
 use Rattle.tablereader.proofs.TransitionRecords.{noCode, transition-same, transition-used, values, few-values, codes, code-at}
+use Rattle.tablereader.proofs.TakenLaws.{then-taken, taken-passes}
 use Rattle.tablewriter.specs.File.{transitionBytes}
-use Rattle.tablefile.proofs.TakenLaws.{then-taken, taken-passes}
 use Rattle.tablefile.proofs.Filled.{sets-more}
 
 pub zero-code : (c : OutputCode) → c .0 ≡ 0 → c ≡ noCode

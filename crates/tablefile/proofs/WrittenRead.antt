@@ -19,19 +19,18 @@ use Rattle.transducer.specs.Transition.{outside, at, firsts}
 use Rattle.transducer.specs.Blank.{clearTransition, blankTransducer}
 use Rattle.transducer.specs.declared.StateSet.{StateSet}
 use Rattle.transducer.specs.declared.Transducer.{Transducer}
-use Rattle.tablereader.specs.Outcome.{outcomeOf, _▸_}
 use Rattle.transducer.specs.Refusals.{bytesFollow, tooLong}
 use Rattle.tablereader.specs.Record.{headerRanges, headerSize, stateSize}
 use Rattle.tablereader.specs.Header.{headerOf}
 use Rattle.tablereader.specs.States.{statesFrom}
 use Rattle.tablereader.specs.Transitions.{transitionsFrom}
-use Rattle.tablereader.specs.Reader.{endFault, startsOf, finalsOf, transitionsOf, outcomeWith, tableWith, readOf}
+use Rattle.tablereader.specs.Reader.{endFault, startsOf, finalsOf, transitionsOf, tableWith, readOf}
 use Rattle.tablereader.specs.declared.header.Header.{Header}
 use Rattle.tablereader.specs.declared.Outcome.the-variants.{Taken}
 use Rattle.tablereader.proofs.HeaderRecord.{Counted, counted}
+use Rattle.tablereader.proofs.TakenLaws.{Passed, taken-passed}
 use Rattle.tablewriter.specs.File.{statesOf, sizeOf, stateBytes, transitionBytesBelow, headerBytes, writeOf}
 use Rattle.tablewriter.proofs.FileLaws.{file-parts}
-use Rattle.tablefile.proofs.TakenLaws.{then-taken, taken-passes}
 use Rattle.tablefile.proofs.Rising.{added-states}
 use Rattle.tablefile.proofs.Filled.{firsts-filled}
 use Rattle.tablefile.proofs.StateRecords.{states-back}
@@ -81,38 +80,15 @@ module _ (text : List ℕ) (h : Header) (c : Counted h) where
       in
       rw same (b .bytes)
 
-  -- every part of the file was taken
-  record Parts : Type 0 where
-    header : h .fault ≡ 0
-    starts : startsOf text h .outcome ≡ Taken
-    finals : finalsOf text h .outcome ≡ Taken
-    transitions : transitionsOf text h .outcome ≡ Taken
-    end : endFault text (transitionsOf text h .next) ≡ 0
-
-  parts : outcomeWith text h ≡ Taken → Parts
-  unfolding outcomeWith
-  parts e =
-      let a = then-taken (outcomeOf (h .fault) 0 ▸ startsOf text h .outcome ▸ finalsOf text h .outcome ▸ transitionsOf text h .outcome) _ e in
-      let b = then-taken (outcomeOf (h .fault) 0 ▸ startsOf text h .outcome ▸ finalsOf text h .outcome) _ (a .0) in
-      let d = then-taken (outcomeOf (h .fault) 0 ▸ startsOf text h .outcome) _ (b .0) in
-      let f = then-taken (outcomeOf (h .fault) 0) _ (d .0) in
-      record {
-        header = taken-passes (h .fault) 0 (f .0);
-        starts = f .1;
-        finals = d .1;
-        transitions = b .1;
-        end = taken-passes (endFault text (transitionsOf text h .next)) _ (a .1);
-      }
-
-  starts-back : Parts → SetBack letterS (h .starts) headerSize (tableWith text h .starts)
+  starts-back : Passed text h → SetBack letterS (h .starts) headerSize (tableWith text h .starts)
   unfolding tableWith startsOf
   starts-back p = set-back letterS (h .starts) headerSize 1 (p .starts)
 
-  finals-back : Parts → SetBack letterF (h .finals) (headerSize + stateSize * h .starts) (tableWith text h .finals)
+  finals-back : Passed text h → SetBack letterF (h .finals) (headerSize + stateSize * h .starts) (tableWith text h .finals)
   unfolding tableWith finalsOf
   finals-back p = set-back letterF (h .finals) (headerSize + stateSize * h .starts) (1 + h .starts) (p .finals)
 
-  all-back : Parts → drop (headerSize + stateSize * h .starts + stateSize * h .finals) text ≡ transitionBytesBelow (tableWith text h) (tableWith text h .count) ++ []
+  all-back : Passed text h → drop (headerSize + stateSize * h .starts + stateSize * h .finals) text ≡ transitionBytesBelow (tableWith text h) (tableWith text h .count) ++ []
   unfolding tableWith transitionsOf
   all-back p =
       rw (← end-back text (transitionsOf text h .next) (p .end))
@@ -128,7 +104,7 @@ module _ (text : List ℕ) (h : Header) (c : Counted h) where
       let header : bytesOf h ≡ headerBytes t = rw (n, k, s .size, f .size) in
       sym (e ∙ rw (header, s .bytes, f .bytes, l) (sym (file-parts t)))
 
-  table-written : Parts → text ≡ bytesOf h ++ drop headerSize text → writeOf (tableWith text h) ≡ text
+  table-written : Passed text h → text ≡ bytesOf h ++ drop headerSize text → writeOf (tableWith text h) ≡ text
   unfolding tableWith
   table-written p e = all-written (tableWith text h) refl refl (starts-back p) (finals-back p) (all-back p) e
 
@@ -138,5 +114,5 @@ unfolding readOf
 written-read f e =
     let h = headerOf f in
     let c = counted f h refl in
-    let p = parts f h c e in
+    let p = taken-passed f h e in
     rw e (table-written f h c p (header-back f (p .header)))

@@ -1,15 +1,18 @@
 -- A file is taken exactly when each of its checks passes. Assumes nothing.
 use mathlib.Core.Path.{_≡_, refl, ap}
 use mathlib.Core.Bool.{Bool, true, false, cond}
+use mathlib.Core.List.{List}
 use Prim.Native.Nat.{ℕ, _≤_}
 use native.Mathlib.Omega.{arith}
 use borrow.Author.Tests.{eqb-true, eqb-false}
 use lib.Dec.{eqb}
-use Rattle.tablereader.specs.Outcome.{numberOf, outcomeOf, _▸_}
 use Rattle.transducer.specs.Refusals.{ended, wrongByte, notANumber, outOfRange, notRising, bytesFollow}
+use Rattle.tablereader.specs.Outcome.{numberOf, outcomeOf, _▸_}
+use Rattle.tablereader.specs.Reader.{endFault, startsOf, finalsOf, transitionsOf, recordsWith, outcomeWith}
 use Rattle.tablereader.specs.declared.Outcome.{Outcome}
 use Rattle.tablereader.specs.declared.Outcome.the-variants.{Taken, Ended, WrongByte, NotANumber, OutOfRange, NotRising, BytesFollow, TooLong}
+use Rattle.tablereader.specs.declared.header.Header.{Header}
 use Rattle.tablereader.proofs.Outcomes.{taken-number}
 
 -- two readings in a row are taken if both are
 pub then-taken : (a b : Outcome) → a ▸ b ≡ Taken → (a ≡ Taken) × (b ≡ Taken)
@@ -58,3 +61,29 @@ taken-passes fault at e = go (eqb fault 0) refl e
     go : (x : Bool) → eqb fault 0 ≡ x → cond x Taken others ≡ Taken → fault ≡ 0
     go true t r = eqb-true fault 0 t
     go false t r = let none = ap numberOf r in let some = others-refused .number in absurd (omega arith)
+
+-- ---- the file
+
+module _ (text : List ℕ) (h : Header) where
+  -- every check of a file with these counts passes
+  pub record Passed : Type 0 where
+    pub header : h .fault ≡ 0
+    pub starts : startsOf text h .outcome ≡ Taken
+    pub finals : finalsOf text h .outcome ≡ Taken
+    pub transitions : transitionsOf text h .outcome ≡ Taken
+    pub end : endFault text (transitionsOf text h .next) ≡ 0
+
+  pub taken-passed : outcomeWith text h ≡ Taken → Passed
+  unfolding outcomeWith recordsWith
+  taken-passed e =
+      let a = then-taken (recordsWith text h) _ e in
+      let b = then-taken (outcomeOf (h .fault) 0 ▸ startsOf text h .outcome ▸ finalsOf text h .outcome) _ (a .0) in
+      let d = then-taken (outcomeOf (h .fault) 0 ▸ startsOf text h .outcome) _ (b .0) in
+      let f = then-taken (outcomeOf (h .fault) 0) _ (d .0) in
+      record {
+        header = taken-passes (h .fault) 0 (f .0);
+        starts = f .1;
+        finals = d .1;
+        transitions = b .1;
+        end = taken-passes (endFault text (transitionsOf text h .next)) _ (a .1);
+      }
