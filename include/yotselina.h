@@ -29,7 +29,6 @@
  *     9    the input word has over 255 codes (yotselina_translate)
  *     10   an input code is 0 or over 250
  *     11   no accepting path reads the input word (yotselina_translate)
- *     12   the file has over 13,202 bytes
  *     13   the input word has over 63 codes, or the output word over 127 (yotselina_accepts)
  *     14   an output code is 0 or over 250 (yotselina_accepts)
  *     15   a line of the first table writes more than one code (yotselina_join)
@@ -37,9 +36,9 @@
  *     17   the joined table would have over 256 lines (yotselina_join)
  *     100  the list `answer` is too short
  *
- *   Checked in this order: 100; the file's refusals, from left to right: 1 to 6, then 12, and of two files those of the first, then those of
- *   the second; then those of the call, in the order that stands with it. docs/MANUAL.md has a cure for each. (8 is for table values that were
- *   not read from a file, and does not come from here.)
+ *   Checked in this order: 100; the file's refusals, from left to right: 1 to 6, and of two files those of the first, then those of the
+ *   second; then those of the call, in the order that stands with it. docs/MANUAL.md has a cure for each. (8 is for table values that were
+ *   not read from a file, and does not come from here. No refusal has the number 12.)
  *
  * WHAT IS LEFT UNCHANGED
  *   A refused call changes nothing of what is lent, `answer` included. A call that is done changes only what it says that it writes: places
@@ -122,7 +121,7 @@ extern "C" {
  *
  *   file, file_length   the bytes of the file
  *
- * Returns 0 if the file is taken. Refusals: 1 to 6, 12, each with its record.
+ * Returns 0 if the file is taken. Refusals: 1 to 6, each with its record.
  * Writes nothing.
  * Stack: 20,480 bytes.
  */
@@ -147,7 +146,7 @@ uint32_t yotselina_check(const uint8_t *file, size_t file_length);
  * Files whose tables are alike (docs/MANUAL.md, the table file: as many states, the same start and final states, and the same lines, in any order and
  * each any number of times) get the same [0] and [1].
  *
- * Refusals: 100; 1 to 6, 12 with the record; 7 if any of the five lists is below its size, whatever the verdict would be.
+ * Refusals: 100; 1 to 6 with the record; 7 if any of the five lists is below its size, whatever the verdict would be.
  * Stack: 131,072 bytes.
  */
 uint32_t yotselina_verdict(const uint8_t *file, size_t file_length,
@@ -171,7 +170,7 @@ uint32_t yotselina_verdict(const uint8_t *file, size_t file_length,
  * is not settled, and 7 is then given only if some output of the word does not fit. Two single tables that are alike give the same output or the
  * same refusal for every word, with YOTSELINA_OUTPUT places each.
  *
- * Refusals: 100; 1 to 6, 12 with the record; 9, 10, 11; 7 if the output does not fit, never with YOTSELINA_OUTPUT places.
+ * Refusals: 100; 1 to 6 with the record; 9, 10, 11; 7 if the output does not fit, never with YOTSELINA_OUTPUT places.
  * Stack: 163,840 bytes.
  */
 uint32_t yotselina_translate(const uint8_t *file, size_t file_length,
@@ -191,7 +190,7 @@ uint32_t yotselina_translate(const uint8_t *file, size_t file_length,
  * The table may be split: yes is said of each output of the word. If it is single, yes is said of the output that yotselina_translate gives,
  * and of no other. A word that no accepting path reads has no output, so the answer is no, whatever the output word: 11 is not given.
  *
- * Refusals: 100; 1 to 6, 12 with the record; 13 for either word, before any code is looked at; 10; 14.
+ * Refusals: 100; 1 to 6 with the record; 13 for either word, before any code is looked at; 10; 14.
  * Stack: 40,960 bytes.
  */
 uint32_t yotselina_accepts(const uint8_t *file, size_t file_length,
@@ -205,7 +204,7 @@ uint32_t yotselina_accepts(const uint8_t *file, size_t file_length,
  *   file, file_length   the bytes of the table file
  *   flags               at least YOTSELINA_STATES places: flag q is 1 if state q is useful, else 0 (also where the table has no state q)
  *
- * Refusals: 1 to 6, 12 with the record; 7 if flags has fewer than YOTSELINA_STATES places.
+ * Refusals: 1 to 6 with the record; 7 if flags has fewer than YOTSELINA_STATES places.
  * Stack: 32,768 bytes.
  */
 uint32_t yotselina_useful_states(const uint8_t *file, size_t file_length, uint8_t *flags, size_t flags_length);
@@ -220,7 +219,7 @@ uint32_t yotselina_useful_states(const uint8_t *file, size_t file_length, uint8_
  *
  * Order counts: (p, q) and (q, p) are two pairs. p may equal q.
  *
- * Refusals: 100; 1 to 6, 12 with the record; 7 if flags has fewer than YOTSELINA_PAIRS places.
+ * Refusals: 100; 1 to 6 with the record; 7 if flags has fewer than YOTSELINA_PAIRS places.
  * Stack: 65,536 bytes.
  */
 uint32_t yotselina_useful_pairs(const uint8_t *file, size_t file_length,
@@ -254,7 +253,7 @@ uint32_t yotselina_difference(const uint8_t *x, size_t x_length,
  *
  * What is written is what was read, byte for byte.
  *
- * Refusals: 100; 1 to 6, 12 with the record; 7 if the written file does not fit.
+ * Refusals: 100; 1 to 6 with the record; 7 if the written file does not fit.
  * Stack: 32,768 bytes.
  */
 uint32_t yotselina_write(const uint8_t *file, size_t file_length,
@@ -281,7 +280,7 @@ uint32_t yotselina_write(const uint8_t *file, size_t file_length,
  * join is refused; 17 may come of one only, since repeats make lines. If there is no joined pair, the blank table is written: one state, and
  * nothing else.
  *
- * Refusals: 100; 1 to 6, 12 with the record, of the first file, then of the second (YOTSELINA_SECOND); 15, 16, 17; 7 if the joined file does not fit,
+ * Refusals: 100; 1 to 6 with the record, of the first file, then of the second (YOTSELINA_SECOND); 15, 16, 17; 7 if the joined file does not fit,
  * never with YOTSELINA_FILE places.
  * Stack: 65,536 bytes.
  */

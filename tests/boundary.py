@@ -129,11 +129,16 @@ ORDERS = (
 )
 
 
-def same_refusal(findings, group, call, number, record, note="", second=False):
-    """A call that must be refused so, and change nothing."""
+def faults_of_refused(call, number, record, second=False):
+    """In what a call is not refused so, or changes something."""
     refusal = Refusal(number, record, second)
     faults = [] if call.refusal() == refusal else [f"expected {refusal}; returned {call.refusal() or 'done'}"]
-    findings.check(f"library, {group}", faults + [f"{lent} is changed" for lent in call.changed({})], call.inputs[0], f"{call}\n{note}".rstrip())
+    return faults + [f"{lent} is changed" for lent in call.changed({})]
+
+
+def same_refusal(findings, group, call, number, record, note="", second=False):
+    """A call that must be refused so, and change nothing."""
+    findings.check(f"library, {group}", faults_of_refused(call, number, record, second), call.inputs[0], f"{call}\n{note}".rstrip())
 
 
 def compare_orders(library, findings):
@@ -162,6 +167,41 @@ def compare_files(library, findings):
     check(findings, "named word", table, call, "the longest translation")
     for less in one_short(exact_sizes(call)):
         check(findings, "named word", table, library.call(random, "translate", table.content, bytes(word), **less), "the longest, one place short")
+
+
+# --- bytes behind the last record ------------------------------------------------------------------------------------
+
+ECHO_FILE = table_file(cases.table(1, [0], [0], (0, 0, MAX_CODE, MAX_CODE)))  # before the longest file it gives that file
+
+
+def compare_counts_behind(library, findings, name, content, records):
+    """Every count of bytes behind the last record of one whole file, lines and parts of lines: one list is lent, each time one place more of it."""
+    group = f"library, {cases.BEHIND}"
+    call = Call(randomness(group, name), "check", (content + cases.behind(cases.LINE, cases.MOST_BEHIND),), {})
+    call.lend_only("file", len(content))
+    check(findings, cases.BEHIND, table_of(content), call.make(library), name)
+    for count in range(1, cases.MOST_BEHIND + 1):
+        call.lend_only("file", len(content) + count)
+        faults = faults_of_refused(call.make(library), 6, records)
+        findings.check(group, faults, content, f"{call}\nbytes behind: {count:,}")
+        findings.count(f"{group}, every count", f"{name}:")
+
+
+def compare_behind(library, findings):
+    """Every call that reads files, on whole ones and with bytes behind the last record: in a join behind either file, and behind both."""
+    random = randomness("library", cases.BEHIND)
+    for title, content, _ in cases.WHOLE:
+        for name in OF_FILES:
+            call = library.call(random, name, *inputs_of(name, content, [b""], [(b"", b"")])[0])
+            check(findings, cases.BEHIND, table_of(content), call, title)
+        for files in ((content, ECHO_FILE), (ECHO_FILE, content)):
+            check(findings, cases.BEHIND, table_of(files[0]), library.call(random, "join", *files), title)
+    for title, content, records in cases.files_with_bytes_behind():
+        for name in OF_FILES:
+            call = library.call(random, name, *inputs_of(name, content, [LONG], [(LONG, LONG)])[0])
+            same_refusal(findings, cases.BEHIND, call, 6, records, title)
+        for files in ((content, ECHO_FILE), (ECHO_FILE, content), (content, LATE)):
+            same_refusal(findings, cases.BEHIND, library.call(random, "join", *files), 6, records, title, second=files[0] == ECHO_FILE)
 
 
 # --- differences -----------------------------------------------------------------------------------------------------
@@ -274,7 +314,8 @@ def run(findings):
     build()
     jobs = [(compare_table, kind, index) for kind, (count, _) in generate.KINDS.items() for index in range(share(-(-count // SOME_TABLES)))]
     jobs += [(compare_mixed, index) for index in range(share(MIXED))]
-    jobs += [(compare_orders,), (compare_files,), (compare_differences,), (compare_long,)]
+    jobs += [(compare_orders,), (compare_files,), (compare_behind,), (compare_differences,), (compare_long,)]
+    jobs += [(compare_counts_behind, *whole) for whole in cases.WHOLE]
     spread(Library, jobs, findings)
 
 

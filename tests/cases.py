@@ -2,7 +2,7 @@
 
 from compare import answer, as_codes, compare_translation, expected_verdict, faults_of_verdict
 from listing import MAX_TRANSLATION, Refusal, parse_translation, show
-from transducer import MAX_FILE, MAX_WORD, Transducer, Transition, record, table_file
+from transducer import MAX_CODE, MAX_FILE, MAX_WORD, Transducer, Transition, record, table_file
 
 GROUP = "named case"
 MADE = "files that are compared with"
@@ -119,6 +119,7 @@ def header(states=1, starts=0, finals=0, lines=0):
 
 
 LINE = b"L   0   0   1   0\n"
+LEAST = header()
 LONGEST = table_file(table(32, range(32), range(32), *[(31, 31, 250, *[250] * 8)] * 256))
 
 # name, file, what the verdict program prints byte for byte
@@ -172,6 +173,27 @@ FILES = (
     ("a million bytes", b"T" * 1_000_000, refused(3)),
 )
 
+BEHIND = "bytes behind the last record"
+MOST_BEHIND = 20_000
+FILLERS = {"line ends": b"\n", "spaces": b" ", "lines": LINE}  # what stands behind the last record
+# name, file, count of its records
+WHOLE = (("the least file", LEAST, 1), ("table P", P_FILE, 5), ("the longest file", LONGEST, 321))
+
+
+def behind(filler, count):
+    """So many bytes to stand behind the last record."""
+    return (filler * count)[:count]
+
+
+def files_with_bytes_behind():
+    """The whole files with bytes behind the last record: one, as many as make them about as long as the longest file or 20,000 bytes long, and the
+    most. What it is, the file, the count of its records."""
+    for name, content, records in WHOLE:
+        lengths = {len(content) + 1, *range(MAX_FILE - 1, MAX_FILE + 3), MOST_BEHIND, len(content) + MOST_BEHIND}
+        for count in sorted(length - len(content) for length in lengths if length > len(content)):
+            for filling, filler in FILLERS.items():
+                yield f"{name}, bytes behind: {count:,}, {filling}", content + behind(filler, count), records
+
 
 # --- running them ----------------------------------------------------------------------------------------------------
 
@@ -207,9 +229,9 @@ def run_translations(programs, findings):
 
 
 def run_longest(programs, findings):
-    """The longest file, the longest translation, and split tables on which any output of the word will do."""
+    """The longest translation, and split tables on which any output of the word will do; that the longest file and that of table P are what they
+    should be."""
     findings.check_apart(MADE, [] if len(LONGEST) == MAX_FILE else [f"{len(LONGEST)} bytes"], b"", "the longest file")
-    findings.check(GROUP, faults_of_verdict(programs, findings, LONGEST, *expected_verdict(LONGEST)), LONGEST, "the longest file")
     findings.check_apart(MADE, [] if table_file(P) == P_FILE and len(P_FILE) == 74 else ["other bytes"], P_FILE, "the file of table P")
     transducer, word, expected = longest_translation()
     printed, faults = answer(parse_translation, programs.translate, table_file(transducer), bytes(word))
@@ -219,6 +241,19 @@ def run_longest(programs, findings):
     for transducer in (P, table(1, [0], [0], (0, 0, 0, 5)), D_SPLIT):
         for word in (b"", b"\1", b"\1\1\1", b"\1\2"):
             compare_translation(programs, findings, table_file(transducer), word, GROUP)
+
+
+def run_behind(programs, findings):
+    """Whole files are taken; with bytes behind the last record both programs refuse them, translating before it looks at the word."""
+    for name, content, _ in WHOLE:
+        findings.check(GROUP, faults_of_verdict(programs, findings, content, *expected_verdict(content)), content, name)
+        compare_translation(programs, findings, content, b"", GROUP)
+    findings.check(GROUP, faults_of_bytes(single(1_024), programs.verdict, LONGEST), LONGEST, "the longest file")
+    printed = output(*[MAX_CODE] * 8)
+    findings.check(GROUP, faults_of_bytes(printed, programs.translate, LONGEST, bytes((MAX_CODE,))), LONGEST, "the longest file, the word 250")
+    for name, content, records in files_with_bytes_behind():
+        for run_program, *word in ((programs.verdict,), (programs.translate, b"\0" * (MAX_WORD + 1))):
+            findings.check(BEHIND, faults_of_bytes(refused(6, records), run_program, content, *word), content, name)
 
 
 def run_in_pieces(programs, findings):
@@ -233,5 +268,5 @@ def run_in_pieces(programs, findings):
 
 
 def run(programs, findings):
-    for part in (run_verdicts, run_refused_tables, run_translations, run_longest, run_in_pieces):
+    for part in (run_verdicts, run_refused_tables, run_translations, run_longest, run_behind, run_in_pieces):
         part(programs, findings)

@@ -15,6 +15,7 @@ from pathlib import Path
 import cases
 import damage
 import generate
+import refusals
 import series
 from compare import as_codes, expected_verdict, randomness
 from deskanswers import (expected_join, faults_of_joined, faults_of_run, faults_of_translation, faults_of_useful, faults_of_word_test,
@@ -33,7 +34,7 @@ sys.path.append(str(ROOT / "cli"))
 
 from desktool.commands import COMMANDS
 from desktool.library import VARIABLE
-from desktool.refusals import LONGEST_SHOWN, MORE_THAN_ONE_CODE, WORDS
+from desktool.refusals import LONGEST_SHOWN, MORE_THAN_ONE_CODE, UNKNOWN, WORDS
 
 GROUP = "desk tool"
 DOCUMENTS = "desk tool, documents"
@@ -175,9 +176,10 @@ def try_files(tool, findings):
 # --- refusals ----------------------------------------------------------------------------------------------------------
 
 
-def faults_of_refusal(run, refusal, content, name="table"):
-    """In what a refusal is not said whole: number, record, the file's name and line and its text, cause and cure."""
-    words = WORDS[refusal.number]
+def faults_of_refusal(run, refusal, content, name="table", words=None):
+    """In what a refusal is not said whole: number, record, the file's name and line and its text, cause and cure; by the words of its number, or
+    those given."""
+    words = words or WORDS[refusal.number]
     expected = [f"refused with number {refusal.number}", f"\ncause: {words.cause}\n", f"\ncure:  {words.cure}\n"]
     if words.of_file:
         lines = content[:FILE_SEEN].removesuffix(b"\n").split(b"\n") if content else []
@@ -285,14 +287,15 @@ def try_damaged(tool, findings):
 
 
 def try_fake(tool, findings):
-    """Libraries that answer every check with one number, for those that cannot be had: the tool says what the library says, whatever the file."""
+    """Libraries that answer every check with one number, for those that cannot be had: the tool says what the library says, whatever the file; of a
+    number that no refusal has, that it does not know it."""
     source = tool.folder / "fake.c"
-    for number in (7, 8, 12, 100):
+    for number, words in (*((number, WORDS[number]) for number in (7, 8, 100)), (refusals.UNUSED, UNKNOWN)):
         fake = tool.folder / f"fake{number}.so"
         source.write_text(f"unsigned yotselina_check(void) {{ return {2 << 16 | number}; }}\n", encoding="ascii")
         complaint = compile_c("gcc", "-shared", "-fPIC", "-o", fake, source)
         run = tool.about(cases.P_FILE, "check", "--library", str(fake))
-        faults = [complaint] if complaint else faults_of_refusal(run, Refusal(number, 2), cases.P_FILE)
+        faults = [complaint] if complaint else faults_of_refusal(run, Refusal(number, 2), cases.P_FILE, words=words)
         findings.check(GROUP, faults, b"", f"number {number} from a fake library")
         findings.count("desk tool, refusals by a fake library", number)
     run = tool.about(cases.P_FILE, "verdict", "--library", str(fake))
@@ -352,7 +355,9 @@ def try_formats(tool, findings):
 
 
 def try_documents(tool, findings):
-    """The manual has the tool's causes and cures and what it says of tables/split; docs/ has the picture of it."""
+    """The refusal numbers are the same wherever they stand; the manual has the tool's causes and cures and what it says of tables/split; docs/ has
+    the picture of it."""
+    refusals.check_numbers(findings)
     manual = (ROOT / "docs" / "MANUAL.md").read_text(encoding="utf-8")
     rows = {int(number): (bool(of_file), cause, cure)
             for number, of_file, cause, cure in re.findall(r"^\| (\d+)(, record)? \| (.*) \| (.*) \|$", manual, re.MULTILINE)}

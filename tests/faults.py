@@ -7,6 +7,7 @@ from pathlib import Path
 
 import alike
 import boundary
+import cases
 import join
 import wordtest
 from examples import run_stack, stack_of_lists
@@ -14,6 +15,7 @@ from findings import Findings
 from library import CALLS, Library, build, link_shared
 from programs import ROOT
 from tools import debian
+from transducer import MAX_FILE
 from workers import spread
 
 GROUP = "library, seeded fault is found"
@@ -133,6 +135,25 @@ REPEATS = (
     ("a repeat is not written", "write", "", "if (!r) answer[0] = without_repeats(out, answer[0]);"),
     ("a repeat is not joined", "join", "", "if (!r) answer[0] = without_repeats(out, answer[0]);"),
 )
+# functions that are wrong about bytes behind the last record: the comparisons of boundary.py that are about them must find them
+TOO_LONG = f"file_length > {MAX_FILE} && YOTSELINA_NUMBER(r) == 6"
+LONGEST_REFUSED = f"if (!r && file_length == {MAX_FILE}) r = 321 << 16 | 6;"
+CUT = f"if ({{0}}_length > {MAX_FILE}) {{0}}_length = {MAX_FILE};"
+BEHIND = (
+    ("6 is not said of a file that is too long", "check", "", f"if ({TOO_LONG}) r = 0;"),
+    ("12 is said of a file that is too long", "check", "", f"if ({TOO_LONG}) r += 6;"),
+    ("the longest file is refused", "check", "", LONGEST_REFUSED),
+    ("no more than the longest file is looked at", "check", CUT.format("file"), ""),
+    ("256 bytes behind are none", "check", "", "if (YOTSELINA_NUMBER(r) == 6 && file_length > 256 && !right(file, file_length - 256)) r = 0;"),
+    ("a line end behind is taken", "check", "",
+     "if (YOTSELINA_NUMBER(r) == 6 && file[file_length - 1] == 10 && !right(file, file_length - 1)) r = 0;"),
+    ("a line behind is taken", "check", "",
+     "if (YOTSELINA_NUMBER(r) == 6 && file_length > 18 && file[file_length - 18] == 'L' && !right(file, file_length - 18)) r = 0;"),
+    ("12 is said of a file that is too long", "translate", "", f"if ({TOO_LONG}) r += 6;"),
+    ("the longest file is refused", "useful_pairs", "", LONGEST_REFUSED),
+    ("no more than the longest file is looked at", "write", CUT.format("file"), ""),
+    ("no more than the longest file is looked at, of the second", "join", CUT.format("second"), ""),
+)
 # a function that keeps something while it runs: seen only where another thread is in it at the same time
 SHARES = ("memory that threads share", "verdict", "static volatile size_t kept; kept = file_length;", "if (!r && kept != file_length) answer[1]++;")
 # a function that copies what is lent: seen only by the stack that it takes
@@ -222,6 +243,14 @@ def compare_alike(library, found, name):
             alike.compare_calls(library, found, kind, index)
 
 
+def compare_behind(library, found, name):
+    """The comparisons of files with bytes behind the last record; those of every count only where the others do not show the fault."""
+    boundary.compare_behind(library, found)
+    for whole in cases.WHOLE if name == "check" else ():
+        if not found.failures:
+            boundary.compare_counts_behind(library, found, *whole)
+
+
 def try_fault(_, findings, archive, fault):
     with tempfile.TemporaryDirectory() as folder:
         library = wrong_library(Path(folder), archive, fault)
@@ -230,6 +259,8 @@ def try_fault(_, findings, archive, fault):
             boundary.compare_threads(library, found)
         elif fault in REPEATS:
             compare_alike(library, found, fault[1])
+        elif fault in BEHIND:
+            compare_behind(library, found, fault[1])
         else:
             found = compare_some(library, fault[1])
     findings.check(GROUP, [] if found.failures else [f"not found: {fault[0]} ({fault[1]})"], b"")
@@ -251,5 +282,5 @@ def try_copies(_, findings, archive):
 
 def run(findings):
     archive = build()
-    jobs = [(try_fault, archive, fault) for fault in (*FAULTS, *REPEATS, SHARES)] + [(try_copies, archive), (try_misjoins, archive)]
+    jobs = [(try_fault, archive, fault) for fault in (*FAULTS, *REPEATS, *BEHIND, SHARES)] + [(try_copies, archive), (try_misjoins, archive)]
     spread(Library, jobs, findings, batch=2)

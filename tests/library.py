@@ -136,6 +136,10 @@ class Call:
         self.ended = time.perf_counter_ns()
         return self
 
+    def lend_only(self, name, places):
+        """Of a list that is read, lends only the first places from now on; what stands behind them is there, as the guard bytes are."""
+        self.read[name].places = places
+
     def refusal(self):
         return refusal_of(self.returned)
 
@@ -144,7 +148,7 @@ class Call:
         return [name for name, lent in (self.read | self.lent).items() if not lent.holds(owed.get(name, ()))]
 
     def __str__(self):
-        return f"{self.name}, lent {self.sizes}, read {[len(content) for content in self.inputs]} bytes"
+        return f"{self.name}, lent {self.sizes}, read {[lent.places for lent in self.read.values()]} bytes"
 
 
 class Library:

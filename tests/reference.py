@@ -10,8 +10,8 @@ import re
 from collections import deque
 from itertools import product
 
-from transducer import (FILE_SEEN, MAX_CODE, MAX_FILE, MAX_OUTPUTS, MAX_STATES, MAX_TESTED_INPUT, MAX_TESTED_OUTPUT, MAX_TRANSITIONS, MAX_WORD,
-                        WORD_SEEN, Transducer, Transition)
+from transducer import (FILE_SEEN, MAX_CODE, MAX_OUTPUTS, MAX_STATES, MAX_TESTED_INPUT, MAX_TESTED_OUTPUT, MAX_TRANSITIONS, MAX_WORD, WORD_SEEN,
+                        Transducer, Transition)
 
 # --- the reader ------------------------------------------------------------------------------------------------------
 
@@ -102,8 +102,6 @@ def read(text):
                             tuple(reader.transition(states - 1) for _ in range(transitions)))
     if reader.at < len(text):
         reader.refuse(6)
-    if len(text) > MAX_FILE:
-        reader.refuse(12)
     return transducer
 
 

@@ -43,7 +43,7 @@ WORDS = {
              "use a shorter word; its parts are other words, which the table may not read or may translate otherwise"),
     10: Words(False, "an input code is 0 or over 250", "codes are 1 to 250"),
     11: Words(False, "no accepting path reads the input word", "the table has no output for it"),
-    12: Words(True, "the file has over 13,202 bytes", "no table needs as many"),
+    # 12 is not used again
     13: Words(False, "word test: the input word has over 63 codes, or the output word over 127",
               "ask about shorter words; the translator takes input words of up to 255 codes"),
     14: Words(False, "an output code is 0 or over 250", "codes are 1 to 250"),

@@ -8,7 +8,7 @@ use lib.ListN.{length}
 use Rattle.transducer.specs.Refusals.{tooShort}
 use Rattle.tablereader.specs.Outcome as outcome
 use Rattle.tablereader.specs.declared.Outcome as reader
-use Rattle.tablereader.specs.declared.Outcome.the-variants.{Taken, Ended, WrongByte, NotANumber, OutOfRange, NotRising, BytesFollow, TooLong}
+use Rattle.tablereader.proofs.Outcomes.{number-low}
 use Rattle.tablewriter.specs.File.{writeOf}
 use Rattle.series.specs.Join as join
 use Rattle.series.specs.declared.Outcome as series
@@ -18,14 +18,7 @@ use Rattle.joinfiles.specs.Joining.{shortNumber}
 
 -- the reader's
 pub reader-small : (o : reader.Outcome) → outcome.numberOf o < 65536
-reader-small Taken = omega arith
-reader-small (Ended at) = omega arith
-reader-small (WrongByte at) = omega arith
-reader-small (NotANumber at) = omega arith
-reader-small (OutOfRange at) = omega arith
-reader-small (NotRising at) = omega arith
-reader-small (BytesFollow at) = omega arith
-reader-small (TooLong at) = omega arith
+reader-small o = omega (arith, number-low o)
 
 -- the join's
 pub join-small : (o : series.Outcome) → join.numberOf o < 65536

@@ -1,11 +1,11 @@
 -- Bytes behind a record do not count: a byte, a field or a record that lies within a text is read alike where the text goes on. Assumes nothing.
-use mathlib.Core.Path.{_≡_, refl, sym, ap, _∙_}
+use mathlib.Core.Path.{_≡_, refl, ap, _∙_}
 use mathlib.Core.List.{List, [], _∷_, _++_}
 use Prim.Native.Nat.{ℕ, _+_, _*_, _≤_, _<_}
 use native.Mathlib.Omega.{arith}
 use borrow.Author.Tests.{lt-ltb, le-leb}
-use lib.ListN.{length, getD, take, drop, length-append, length-drop}
-use lib.Seq.{take-append-seam, take-append-le, drop-append-le, getD-take}
+use lib.ListN.{length, take, drop, length-append, length-drop, List·getD-append}
+use lib.Seq.{take-append-le, drop-append-le}
 use Rattle.records.specs.Byte.{byteFault}
 use Rattle.records.specs.Field.{columns, fieldOf}
 use Rattle.records.specs.Letters.{recordEnd, recordSize}
@@ -16,10 +16,6 @@ module _ (text rest : List ℕ) where
   longer : length text ≤ length (text ++ rest)
   longer = omega (arith, length-append text rest)
 
-  -- an element within the text
-  element : (at : ℕ) → at < length text → getD (text ++ rest) at 0 ≡ getD text at 0
-  element at h = sym (getD-take (length text) (text ++ rest) at 0 h) ∙ ap (λ l. getD l at 0) (take-append-seam text rest)
-
   -- the columns of a field within the text
   stretch : (at n : ℕ) → at + n ≤ length text → take n (drop at (text ++ rest)) ≡ take n (drop at text)
   stretch at n h =
@@ -28,7 +24,7 @@ module _ (text rest : List ℕ) where
 
   byte-behind : (at b : ℕ) → at < length text → byteFault (text ++ rest) at b ≡ byteFault text at b
   unfolding byteFault
-  byte-behind at b h = rw (lt-ltb at (length (text ++ rest)) (omega (arith, longer)), lt-ltb at (length text) h, element at h)
+  byte-behind at b h = rw (lt-ltb at (length (text ++ rest)) (omega (arith, longer)), lt-ltb at (length text) h, List·getD-append text rest 0 at h)
 
   pub number-behind : (at : ℕ) (r : Range) → at + columns ≤ length text → numberAt (text ++ rest) at r ≡ numberAt text at r
   unfolding numberAt fieldOf

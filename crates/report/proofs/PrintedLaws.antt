@@ -8,7 +8,7 @@ use mathlib.Core.Logic.{_⊎_, inl, inr}
 use Prim.Native.Nat.{ℕ}
 use native.Mathlib.Decide.{ℕ-discrete}
 use native.Mathlib.Omega.{arith}
-use lib.ListN.{length, length-replicate}
+use lib.ListN.{length, take, length-replicate}
 use Rattle.transducer.specs.Transition.{bytesOf}
 use Rattle.transducer.specs.Paths.{Functional}
 use Rattle.buffers.specs.Put.{Puts}
@@ -22,14 +22,18 @@ use Rattle.functionality.specs.Decided.{longEnough, fullOf, refusalOf, verdictO
 use Rattle.functionality.specs.declared.Verdict.{Verdict}
 use Rattle.functionality.proofs.VerdictLaws.{refusal-none}
 use Rattle.functionality.proofs.DecidedLaws.{zero-or-one}
+use Rattle.tablereader.specs.Outcome as reader
+use Rattle.tablereader.specs.Reader.{readOf}
+use Rattle.tablereader.specs.declared.Reading.{Reading}
 use Rattle.tablereader.proofs.Validity.{read-accepted}
-use Rattle.engine.specs.Engine.{numberOf, Taken, tableOf, judgementOf, Judged, fileTranslationOf, FileTranslated}
+use Rattle.tablereader.proofs.LongestLaws.{longest-file}
+use Rattle.engine.specs.Engine.{numberOf, recordOf, Taken, tableOf, judgementOf, Judged, fileTranslationOf, FileTranslated}
 use Rattle.engine.specs.declared.Judgement.{Judgement}
 use Rattle.engine.specs.declared.FileTranslation.{FileTranslation}
 use Rattle.engine.proofs.EngineLaws.{judged-determined, file-translated-determined}
 use Rattle.listing.specs.Listing.{mostTranslated}
-use Rattle.report.specs.Report.{lent, judgementListing, VerdictReport, lentOutput, answerListing, TranslationReport}
-use Rattle.report.specs.Printed.{VerdictPrinted, TranslationPrinted}
+use Rattle.report.specs.Report.{readBytes, lent, judgementListing, VerdictReport, lentOutput, answerListing, TranslationReport}
+use Rattle.report.specs.Printed.{VerdictPrinted, TranslationPrinted, FirstBytes}
 use Rattle.report.proofs.ReportLaws.{lent-sized, refusal-listed, verdict-listed, refusal-answered, output-answered}
 
 -- ---- the verdict
@@ -108,6 +112,41 @@ module _ {f input output : List ℕ} where
 pub translation-printed : {f input out₀ out : List ℕ} {n : ℕ} (h : TranslationReport f input out₀ out n)
     → TranslationPrinted f input (answerListing (h .answer) (h .output))
 translation-printed h = answered-printed (h .translated)
+
+-- ---- the first bytes of a file
+
+-- they are read to the same as the whole
+seen : (f : List ℕ) → readOf (take readBytes f) ≡ readOf f
+seen f = longest-file .seen f readBytes (omega arith)
+
+table-seen : (f : List ℕ) → tableOf (take readBytes f) ≡ tableOf f
+table-seen f = ap (λ (r : Reading). r .table) (seen f)
+
+number-seen : (f : List ℕ) → numberOf (take readBytes f) ≡ numberOf f
+number-seen f = ap (λ (r : Reading). reader.numberOf (r .outcome)) (seen f)
+
+record-seen : (f : List ℕ) → recordOf (take readBytes f) ≡ recordOf f
+record-seen f = ap (λ (r : Reading). reader.recordOf (r .outcome)) (seen f)
+
+verdict-seen : (f listing : List ℕ) → VerdictPrinted (take readBytes f) listing → VerdictPrinted f listing
+verdict-seen f listing (VerdictPrinted.refused n e) = VerdictPrinted.refused (rw (number-seen f) at n) (rw (number-seen f, record-seen f) at e)
+verdict-seen f listing (VerdictPrinted.single t k u e) =
+    VerdictPrinted.single (rw (number-seen f) at t) (rw (table-seen f) at k) (rw (table-seen f) at u) e
+verdict-seen f listing (VerdictPrinted.split t k u s e) =
+    VerdictPrinted.split (rw (number-seen f) at t) (rw (table-seen f) at k) (rw (table-seen f) at u) (rw (table-seen f) at s) e
+
+translation-seen : (f input listing : List ℕ) → TranslationPrinted (take readBytes f) input listing → TranslationPrinted f input listing
+translation-seen f input listing (TranslationPrinted.refused n e) =
+    TranslationPrinted.refused (rw (number-seen f) at n) (rw (number-seen f, record-seen f) at e)
+translation-seen f input listing (TranslationPrinted.unfit t z e) =
+    TranslationPrinted.unfit (rw (number-seen f) at t) (rw (table-seen f) at z) (rw (table-seen f) at e)
+translation-seen f input listing (TranslationPrinted.unread t z k e) =
+    TranslationPrinted.unread (rw (number-seen f) at t) (rw (table-seen f) at z) (rw (table-seen f) at k) e
+translation-seen f input listing (TranslationPrinted.written t z a e) =
+    TranslationPrinted.written (rw (number-seen f) at t) (rw (table-seen f) at z) (rw (table-seen f) at a) e
+
+pub first-bytes : FirstBytes
+first-bytes = record { verdict = verdict-seen; translation = translation-seen }
 
 -- ---- what the contracts determine
 

@@ -1,10 +1,11 @@
 -- What document 01 has the programs print, said of the file and the input word alone. That the contracts promise this is `verdict-printed` and
--- `translation-printed` of proofs/PrintedLaws.antt.
+-- `translation-printed` of proofs/PrintedLaws.antt; `first-bytes` there is `FirstBytes`.
 use mathlib.Core.Path.{_≡_}
 use mathlib.Core.Bool.{true, false}
 use mathlib.Core.List.{List, []}
 use mathlib.Core.Logic.{_≢_}
 use Prim.Native.Nat.{ℕ, _-_, _*_}
+use lib.ListN.{take}
 use Rattle.transducer.specs.Refusals as refusal
 use Rattle.transducer.specs.Transition.{OutputWord, wordOf, bytesOf}
 use Rattle.transducer.specs.Paths.{Relates, Functional}
@@ -13,6 +14,7 @@ use Rattle.witness.specs.Showing.{Buffers, Shown}
 use Rattle.functionality.specs.Decided.{UsefulCount}
 use Rattle.engine.specs.Engine.{numberOf, recordOf, Taken, tableOf}
 use Rattle.listing.specs.Listing.{verdictListing, refusalListing, translationListing}
+use Rattle.report.specs.Report.{readBytes}
 
 -- the listing of the verdict on the file f
 pub data VerdictPrinted (f listing : List ℕ) : Type 0 where
@@ -37,3 +39,8 @@ pub data TranslationPrinted (f input listing : List ℕ) : Type 0 where
   -- any other: an output of the word; never 7
   written : {y : OutputWord} → Taken f → refusalOf (tableOf f) input ≡ 0 → Relates (tableOf f) (wordOf input) y
       → listing ≡ translationListing (bytesOf y) → TranslationPrinted f input listing
+
+-- the programs read the first 13,203 bytes of a file: what is printed of these is what document 01 has them print of the whole file
+pub record FirstBytes : Type 0 where
+  pub verdict : (f listing : List ℕ) → VerdictPrinted (take readBytes f) listing → VerdictPrinted f listing
+  pub translation : (f input listing : List ℕ) → TranslationPrinted (take readBytes f) input listing → TranslationPrinted f input listing

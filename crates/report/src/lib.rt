@@ -12,7 +12,7 @@ use witness::CODES;
 use witness::STEPS;
 use wordsearch::limits;
 
-// How many bytes of a table file are read: one more than the longest has, so that a longer file is still too long.
+// How many bytes of a table file are read: one more than the longest has, so that bytes behind the last record are seen.
 pub const READ_BYTES: usize = MOST_BYTES + 1;
 // How many codes of an input word are read: one more than the longest has.
 pub const READ_CODES: usize = limits::WORD + 1;

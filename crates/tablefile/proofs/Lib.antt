@@ -6,6 +6,7 @@ mod StateRecords
 mod TransitionRecords
 pub mod ReadWritten
 pub mod WrittenRead
+mod LongestFile
 pub mod Calls
 pub mod RoundTrips
 pub mod Repeats

@@ -3,11 +3,11 @@
 use mathlib.Core.Path.{_≡_, refl, sym, ap, _∙_}
 use mathlib.Core.Bool.{true}
 use mathlib.Core.List.{List, [], _∷_, _++_, flatten}
-use Prim.Native.Nat.{ℕ, _+_, _*_, _≤_, _<_}
+use Prim.Native.Nat.{ℕ, _+_, _*_, _<_}
 use native.Mathlib.Omega.{arith}
 use borrow.Author.Tests.{le-ltb}
 use lib.ListN.{length, getD, drop, length-drop}
-use Rattle.records.specs.Letters.{letterT, letterS, letterF, mostBytes}
+use Rattle.records.specs.Letters.{letterT, letterS, letterF}
 use Rattle.records.specs.Reading.{filled}
 use Rattle.records.proofs.FilledLaws.{firsts-at}
 use Rattle.records.proofs.RecordTrip.{RecordRead, record-read}
@@ -32,7 +32,7 @@ use Rattle.tablereader.specs.declared.Outcome.the-variants.{Taken}
 use Rattle.tablewriter.specs.File.{statesOf, sizeOf, stateBytes, transitionBytesBelow, headerBytes, writeOf}
 use Rattle.tablewriter.proofs.FileLaws.{file-parts}
 use Rattle.transducer.proofs.LineLaws.{clear-same}
-use Rattle.tablewriter.proofs.LengthLaws.{size-most, written-at-most}
+use Rattle.tablewriter.proofs.LengthLaws.{size-most}
 use Rattle.tablefile.proofs.Rising.{add-states, set-rising}
 use Rattle.tablefile.proofs.Filled.{filled-firsts}
 use Rattle.tablefile.proofs.StateRecords.{states-read}
@@ -135,8 +135,7 @@ module _ (t : Transducer) (v : Valid t) (s : Shaped t) (text : List ℕ) (is : t
   unfolding endFault
   ends =
       let over = sym (length-drop (all-read .end) text) ∙ ap length (all-read .follows) in
-      let most : length text ≤ mostBytes = rw is (written-at-most t v) in
-      simp (le-ltb (all-read .end) (length text) (omega arith), le-ltb mostBytes (length text) most)
+      simp (le-ltb (all-read .end) (length text) (omega arith))
 
   outcome-taken : outcomeWith text (counts t) ≡ Taken
   unfolding outcomeWith recordsWith startsOf finalsOf transitionsOf outcomeOf _▸_

@@ -5,6 +5,7 @@ use Rattle.tablewriter.proofs.LengthLaws.{written-length, written-at-most}
 use Rattle.tablefile.specs.RoundTrips.{RoundTrips}
 use Rattle.tablefile.proofs.ReadWritten.{read-written}
 use Rattle.tablefile.proofs.WrittenRead.{written-read}
+use Rattle.tablefile.proofs.LongestFile.{longest-taken}
 use Rattle.tablefile.proofs.Calls.{write-then-read, read-then-write}
 
 pub round-trips : RoundTrips
@@ -17,4 +18,5 @@ round-trips =
       taken-valid = λ f taken. read-accepted f;
       written-length = written-length;
       written-at-most = λ t v. written-at-most t (accepted-valid t v);
+      longest-taken = longest-taken;
     }

@@ -1,15 +1,12 @@
 -- Writing what was read of a file that was taken gives the file's bytes. Each record that was taken is the one that is written of what it gave, and
 -- nothing follows the last. Assumes nothing.
 use mathlib.Core.Path.{_≡_, refl, sym, ap, _∙_}
-use mathlib.Core.Bool.{Bool, true, false, cond}
 use mathlib.Core.List.{List, [], _∷_, _++_, flatten}
 use Prim.Native.Nat.{ℕ, _+_, _*_}
 use native.Mathlib.Omega.{arith}
-use borrow.Author.Tests.{ltb-false}
-use lib.Dec.{ltb}
 use lib.ListN.{length, drop, drop-of-length-le}
 use Rattle.records.specs.Field.{columns}
-use Rattle.records.specs.Letters.{letterT, letterS, letterF, mostBytes}
+use Rattle.records.specs.Letters.{letterT, letterS, letterF}
 use Rattle.records.specs.Record.{recordBytes}
 use Rattle.records.specs.Reading.{valuesAt, recordAt}
 use Rattle.records.proofs.RecordTrip.{record-back}
@@ -19,7 +16,6 @@ use Rattle.transducer.specs.Transition.{outside, at, firsts}
 use Rattle.transducer.specs.Blank.{clearTransition, blankTransducer}
 use Rattle.transducer.specs.declared.StateSet.{StateSet}
 use Rattle.transducer.specs.declared.Transducer.{Transducer}
-use Rattle.transducer.specs.Refusals.{bytesFollow, tooLong}
 use Rattle.tablereader.specs.Record.{headerRanges, headerSize, stateSize}
 use Rattle.tablereader.specs.Header.{headerOf}
 use Rattle.tablereader.specs.States.{statesFrom}
@@ -28,7 +24,7 @@ use Rattle.tablereader.specs.Reader.{endFault, startsOf, finalsOf, transitionsO
 use Rattle.tablereader.specs.declared.header.Header.{Header}
 use Rattle.tablereader.specs.declared.Outcome.the-variants.{Taken}
 use Rattle.tablereader.proofs.HeaderRecord.{Counted, counted}
-use Rattle.tablereader.proofs.TakenLaws.{Passed, taken-passed}
+use Rattle.tablereader.proofs.TakenLaws.{end-passes, Passed, taken-passed}
 use Rattle.tablewriter.specs.File.{statesOf, sizeOf, stateBytes, transitionBytesBelow, headerBytes, writeOf}
 use Rattle.tablewriter.proofs.FileLaws.{file-parts}
 use Rattle.tablefile.proofs.Rising.{added-states}
@@ -38,12 +34,7 @@ use Rattle.tablefile.proofs.TransitionRecords.{transitions-back}
 
 -- where the end passes its check nothing follows
 end-back : (text : List ℕ) (at : ℕ) → endFault text at ≡ 0 → drop at text ≡ []
-unfolding endFault
-end-back text at e = go (ltb at (length text)) refl e
-  where
-    go : (x : Bool) → ltb at (length text) ≡ x → cond x bytesFollow (cond (ltb mostBytes (length text)) tooLong 0) ≡ 0 → drop at text ≡ []
-    go true t r = absurd (omega arith)
-    go false t r = drop-of-length-le text (ltb-false at (length text) t)
+end-back text at e = drop-of-length-le text (end-passes text at e)
 
 -- the bytes of the record with the counts of h
 abbrev bytesOf : Header → List ℕ

@@ -28,6 +28,12 @@ pub record WritesFile (f before after : List ℕ) (r : Writing) : Type 0 where
   pub front : take (length f) after ≡ f
   pub buffer : after ≡ put before 0 f
 
+-- a file that is taken and has as many bytes as a file can have
+pub record LongestTaken : Type 0 where
+  pub file : List ℕ
+  pub taken : readOf file .outcome ≡ Taken
+  pub size : length file ≡ mostBytes
+
 -- the round trips, of the definitions and of the calls; what is read is valid; and how long a written file is
 pub record RoundTrips : Type 0 where
   -- "reading a written table gives that table"
@@ -46,3 +52,5 @@ pub record RoundTrips : Type 0 where
   pub written-length : (t : Transducer) → length (writeOf t) ≡ 18 + 6 * (sizeOf (t .starts) + sizeOf (t .finals)) + 18 * t .count + 4 * allOutputs t
   -- "at most 13,202"
   pub written-at-most : (t : Transducer) → acceptedOf t ≡ true → length (writeOf t) ≤ mostBytes
+  -- and not fewer: a file has so many
+  pub longest-taken : LongestTaken

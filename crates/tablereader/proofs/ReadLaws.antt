@@ -8,7 +8,7 @@ use native.Mathlib.Omega.{arith}
 use lib.Dec.{eqb}
 use lib.ListN.{length, getD, length-set}
 use Rattle.transducer.specs.Limits.{mostStates, mostTransitions, mostOutputs}
-use Rattle.transducer.specs.Refusals.{ended, wrongByte, notANumber, outOfRange, notRising, bytesFollow}
+use Rattle.transducer.specs.Refusals.{ended, wrongByte, notANumber, outOfRange, notRising}
 use Rattle.transducer.specs.Transition.{outside}
 use Rattle.transducer.specs.Blank.{blankTransducer}
 use Rattle.transducer.specs.Valid.{Shaped}
@@ -22,7 +22,7 @@ use Rattle.tablereader.specs.States.{readStates, statesFrom}
 use Rattle.tablereader.specs.Transitions.{transitionOf, readTransitions, transitionsFrom}
 use Rattle.tablereader.specs.Reader.{startsOf, finalsOf, transitionsOf, recordsWith, outcomeWith, tableWith, readOf}
 use Rattle.tablereader.specs.declared.Outcome.{Outcome}
-use Rattle.tablereader.specs.declared.Outcome.the-variants.{Taken, Ended, WrongByte, NotANumber, OutOfRange, NotRising, BytesFollow, TooLong}
+use Rattle.tablereader.specs.declared.Outcome.the-variants.{Taken, Ended, WrongByte, NotANumber, OutOfRange, NotRising, BytesFollow}
 use Rattle.tablereader.specs.declared.header.Header.{Header}
 use Rattle.tablereader.proofs.Stores.{after-set}
 use Rattle.tablereader.proofs.HeaderRecord.{Counted, counted}
@@ -101,8 +101,7 @@ module _ {m : ℕ} where
       (either-low (eqb fault wrongByte) (at-record (WrongByte rec) h)
       (either-low (eqb fault notANumber) (at-record (NotANumber rec) h)
       (either-low (eqb fault outOfRange) (at-record (OutOfRange rec) h)
-      (either-low (eqb fault notRising) (at-record (NotRising rec) h)
-      (either-low (eqb fault bytesFollow) (at-record (BytesFollow rec) h) (at-record (TooLong rec) h)))))))
+      (either-low (eqb fault notRising) (at-record (NotRising rec) h) (at-record (BytesFollow rec) h))))))
 
   then-low : {a b : Outcome} → Low m a → Low m b → Low m (a ▸ b)
   unfolding _▸_

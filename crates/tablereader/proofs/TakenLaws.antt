@@ -2,15 +2,16 @@
 use mathlib.Core.Path.{_≡_, refl, ap}
 use mathlib.Core.Bool.{Bool, true, false, cond}
 use mathlib.Core.List.{List}
-use Prim.Native.Nat.{ℕ, _≤_}
+use Prim.Native.Nat.{ℕ, _≤_, _<_}
 use native.Mathlib.Omega.{arith}
-use borrow.Author.Tests.{eqb-true, eqb-false}
-use lib.Dec.{eqb}
+use borrow.Author.Tests.{eqb-true, eqb-false, leb-true, leb-false, lt-ltb}
+use lib.Dec.{eqb, leb}
+use lib.ListN.{length}
 use Rattle.transducer.specs.Refusals.{ended, wrongByte, notANumber, outOfRange, notRising, bytesFollow}
 use Rattle.tablereader.specs.Outcome.{numberOf, outcomeOf, _▸_}
 use Rattle.tablereader.specs.Reader.{endFault, startsOf, finalsOf, transitionsOf, recordsWith, outcomeWith}
 use Rattle.tablereader.specs.declared.Outcome.{Outcome}
-use Rattle.tablereader.specs.declared.Outcome.the-variants.{Taken, Ended, WrongByte, NotANumber, OutOfRange, NotRising, BytesFollow, TooLong}
+use Rattle.tablereader.specs.declared.Outcome.the-variants.{Taken, Ended, WrongByte, NotANumber, OutOfRange, NotRising, BytesFollow}
 use Rattle.tablereader.specs.declared.header.Header.{Header}
 use Rattle.tablereader.proofs.Outcomes.{taken-number}
 
@@ -46,8 +47,7 @@ taken-passes fault at e = go (eqb fault 0) refl e
         (cond (eqb fault notANumber) (NotANumber at)
         (cond (eqb fault outOfRange) (OutOfRange at)
         (cond (eqb fault notRising) (NotRising at)
-        (cond (eqb fault bytesFollow) (BytesFollow at)
-        (TooLong at))))))
+        (BytesFollow at)))))
 
     others-refused : Refused others
     others-refused =
@@ -55,14 +55,27 @@ taken-passes fault at e = go (eqb fault 0) refl e
         (either (eqb fault wrongByte) (refused (WrongByte at) (omega arith))
         (either (eqb fault notANumber) (refused (NotANumber at) (omega arith))
         (either (eqb fault outOfRange) (refused (OutOfRange at) (omega arith))
-        (either (eqb fault notRising) (refused (NotRising at) (omega arith))
-        (either (eqb fault bytesFollow) (refused (BytesFollow at) (omega arith)) (refused (TooLong at) (omega arith)))))))
+        (either (eqb fault notRising) (refused (NotRising at) (omega arith)) (refused (BytesFollow at) (omega arith))))))
 
     go : (x : Bool) → eqb fault 0 ≡ x → cond x Taken others ≡ Taken → fault ≡ 0
     go true t r = eqb-true fault 0 t
     go false t r = let none = ap numberOf r in let some = others-refused .number in absurd (omega arith)
 
 -- ---- the file
+
+module _ (text : List ℕ) (at : ℕ) where
+  -- where the text goes on behind its records the end is refused
+  pub end-follows : at < length text → endFault text at ≡ bytesFollow
+  unfolding endFault
+  end-follows h = rw (lt-ltb at (length text) h)
+
+  -- where the end passes its check the text ends
+  pub end-passes : endFault text at ≡ 0 → length text ≤ at
+  end-passes e = go (leb (length text) at) refl
+    where
+      go : (x : Bool) → leb (length text) at ≡ x → length text ≤ at
+      go true ends = leb-true (length text) at ends
+      go false on = absurd (omega (arith, e, end-follows (leb-false (length text) at on)))
 
 module _ (text : List ℕ) (h : Header) where
   -- every check of a file with these counts passes

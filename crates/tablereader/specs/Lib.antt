@@ -5,3 +5,4 @@ pub mod Header
 pub mod States
 pub mod Transitions
 pub mod Reader
+pub mod Longest

@@ -2,9 +2,9 @@
 use mathlib.Core.Bool.{cond}
 use Prim.Native.Nat.{ℕ}
 use lib.Dec.{eqb}
-use Rattle.transducer.specs.Refusals.{ended, wrongByte, notANumber, outOfRange, notRising, bytesFollow, tooLong}
+use Rattle.transducer.specs.Refusals.{ended, wrongByte, notANumber, outOfRange, notRising, bytesFollow}
 use Rattle.tablereader.specs.declared.Outcome.{Outcome}
-use Rattle.tablereader.specs.declared.Outcome.the-variants.{Taken, Ended, WrongByte, NotANumber, OutOfRange, NotRising, BytesFollow, TooLong}
+use Rattle.tablereader.specs.declared.Outcome.the-variants.{Taken, Ended, WrongByte, NotANumber, OutOfRange, NotRising, BytesFollow}
 
 -- the number of an outcome, 0 for a file that was taken
 abbrev pub numberOf : Outcome → ℕ
@@ -15,7 +15,6 @@ numberOf (NotANumber at) = notANumber
 numberOf (OutOfRange at) = outOfRange
 numberOf (NotRising at) = notRising
 numberOf (BytesFollow at) = bytesFollow
-numberOf (TooLong at) = tooLong
 
 -- the record at which a file was refused
 abbrev pub recordOf : Outcome → ℕ
@@ -26,7 +25,6 @@ recordOf (NotANumber at) = at
 recordOf (OutOfRange at) = at
 recordOf (NotRising at) = at
 recordOf (BytesFollow at) = at
-recordOf (TooLong at) = at
 
 -- the outcome with a number, at a record
 unfoldable pub outcomeOf : ℕ → ℕ → Outcome
@@ -37,8 +35,7 @@ outcomeOf number at =
     (cond (eqb number notANumber) (NotANumber at)
     (cond (eqb number outOfRange) (OutOfRange at)
     (cond (eqb number notRising) (NotRising at)
-    (cond (eqb number bytesFollow) (BytesFollow at)
-    (TooLong at)))))))
+    (BytesFollow at))))))
 
 infixl 30 _▸_
 -- two readings in a row: the outcome of the first where it was refused, else that of the second

@@ -5,12 +5,12 @@ use mathlib.Core.List.{List}
 use Prim.Native.Nat.{ℕ, _+_, _*_}
 use lib.Dec.{eqb, ltb}
 use lib.ListN.{length}
-use Rattle.transducer.specs.Refusals.{bytesFollow, tooLong}
+use Rattle.transducer.specs.Refusals.{bytesFollow}
 use Rattle.transducer.specs.Blank.{blankTransducer}
 use Rattle.transducer.specs.declared.Transducer.{Transducer}
 use Rattle.tablereader.specs.Outcome.{numberOf, outcomeOf, _▸_}
 use Rattle.tablereader.specs.Record.{headerSize, stateSize}
-use Rattle.records.specs.Letters.{letterS, letterF, mostBytes}
+use Rattle.records.specs.Letters.{letterS, letterF}
 use Rattle.tablereader.specs.Header.{headerOf}
 use Rattle.tablereader.specs.States.{statesFrom}
 use Rattle.tablereader.specs.Transitions.{transitionsFrom}
@@ -20,9 +20,13 @@ use Rattle.tablereader.specs.declared.header.Header.{Header}
 use Rattle.tablereader.specs.declared.states.States.{States}
 use Rattle.tablereader.specs.declared.transitions.Transitions.{Transitions}
 
--- after the last record, which ends before a place: bytes may follow, then the file may be too long
+-- after the last record, which ends before a place: bytes may follow
 unfoldable pub endFault : List ℕ → ℕ → ℕ
-endFault text at = cond (ltb at (length text)) bytesFollow (cond (ltb mostBytes (length text)) tooLong 0)
+endFault text at = cond (ltb at (length text)) bytesFollow 0
+
+-- the count of records of a file with these counts
+abbrev pub recordCount : Header → ℕ
+recordCount h = 1 + h .starts + h .finals + h .transitions
 
 module _ (text : List ℕ) (h : Header) where
   -- the start states: they follow the header, and the first of them is record 1
@@ -42,13 +46,9 @@ module _ (text : List ℕ) (h : Header) where
   unfoldable pub recordsWith : Outcome
   recordsWith = outcomeOf (h .fault) 0 ▸ startsOf .outcome ▸ finalsOf .outcome ▸ transitionsOf .outcome
 
-  -- the count of records
-  abbrev pub countWith : ℕ
-  countWith = 1 + h .starts + h .finals + h .transitions
-
   -- the outcome of the file; after the last record the record's number is the count of records
   unfoldable pub outcomeWith : Outcome
-  outcomeWith = recordsWith ▸ outcomeOf (endFault text (transitionsOf .next)) countWith
+  outcomeWith = recordsWith ▸ outcomeOf (endFault text (transitionsOf .next)) (recordCount h)
 
   -- the transducer that the records give
   unfoldable pub tableWith : Transducer

@@ -22,7 +22,6 @@ pub enum Outcome {
     OutOfRange(u16),
     NotRising(u16),
     BytesFollow(u16),
-    TooLong(u16),
 }
 
 // The outcome, and the transducer of the file, or the blank one where it was refused.
@@ -88,15 +87,13 @@ pub fn read(text: &[u8]) -> Reading
     }
 }
 
-// The refusal's number after the last record, which ends before `at`: bytes may follow, or the file be too long.
+// The refusal's number after the last record, which ends before `at`: bytes may follow. No length is checked: a file that nothing follows is not longer
+// than the longest (specs/Longest.antt).
 fn end_fault(text: &[u8], at: usize) -> u8
     ensures { λ r. ⌜ r ≡ endFault (now (text .entry)) at ⌝ }
 {
     if at < text.len() {
-        return refusals::BYTES_FOLLOW;
-    }
-    if record::MOST_BYTES < text.len() {
-        refusals::TOO_LONG
+        refusals::BYTES_FOLLOW
     } else {
         0
     }
@@ -115,7 +112,6 @@ impl Outcome {
             Outcome::OutOfRange(_) => refusals::OUT_OF_RANGE,
             Outcome::NotRising(_) => refusals::NOT_RISING,
             Outcome::BytesFollow(_) => refusals::BYTES_FOLLOW,
-            Outcome::TooLong(_) => refusals::TOO_LONG,
         }
     }
 
@@ -131,7 +127,6 @@ impl Outcome {
             Outcome::OutOfRange(at) => at,
             Outcome::NotRising(at) => at,
             Outcome::BytesFollow(at) => at,
-            Outcome::TooLong(at) => at,
         }
     }
 
@@ -154,7 +149,6 @@ pub fn outcome_of(fault: u8, at: u16) -> Outcome
         refusals::NOT_A_NUMBER => Outcome::NotANumber(at),
         refusals::OUT_OF_RANGE => Outcome::OutOfRange(at),
         refusals::NOT_RISING => Outcome::NotRising(at),
-        refusals::BYTES_FOLLOW => Outcome::BytesFollow(at),
-        _ => Outcome::TooLong(at),
+        _ => Outcome::BytesFollow(at),
     }
 }
