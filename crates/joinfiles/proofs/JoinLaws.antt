@@ -33,7 +33,8 @@ use Rattle.engine.specs.Engine.{numberOf, recordOf, Taken, tableOf}
 use Rattle.joinfiles.specs.Joining.{shortNumber, joinNumber, joinRecord, whereDone, FilesJoined}
 use Rattle.joinfiles.specs.Series.{FileInSeries}
 use Rattle.joinfiles.specs.declared.FileJoin.{FileJoin}
-use Rattle.tablereader.proofs.ReadLaws.{mostRecords, read-shaped, read-record}
+use Rattle.tablereader.specs.Record.{mostRecords}
+use Rattle.tablereader.proofs.ReadLaws.{read-shaped, read-record}
 use Rattle.joinfiles.proofs.Returns.{no-record, not-second}
 use Rattle.joinfiles.proofs.Numbers.{reader-small, join-small, short-small}
 

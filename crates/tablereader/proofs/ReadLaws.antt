@@ -7,7 +7,7 @@ use Prim.Native.Nat.{ℕ, zero, suc, _+_, _≤_, _<_}
 use native.Mathlib.Omega.{arith}
 use lib.Dec.{eqb}
 use lib.ListN.{length, getD, length-set}
-use Rattle.transducer.specs.Limits.{mostStates, mostTransitions, mostOutputs}
+use Rattle.transducer.specs.Limits.{mostTransitions, mostOutputs}
 use Rattle.transducer.specs.Refusals.{ended, wrongByte, notANumber, outOfRange, notRising}
 use Rattle.transducer.specs.Transition.{outside}
 use Rattle.transducer.specs.Blank.{blankTransducer}
@@ -17,10 +17,11 @@ use Rattle.transducer.specs.declared.Transition.{Transition}
 use Rattle.transducer.proofs.SizeLaws.{length-firsts}
 use Rattle.records.specs.Letters.{letterS, letterF}
 use Rattle.tablereader.specs.Outcome.{numberOf, recordOf, outcomeOf, _▸_}
+use Rattle.tablereader.specs.Record.{mostRecords}
 use Rattle.tablereader.specs.Header.{headerOf}
 use Rattle.tablereader.specs.States.{readStates, statesFrom}
 use Rattle.tablereader.specs.Transitions.{transitionOf, readTransitions, transitionsFrom}
-use Rattle.tablereader.specs.Reader.{startsOf, finalsOf, transitionsOf, recordsWith, outcomeWith, tableWith, readOf}
+use Rattle.tablereader.specs.Reader.{recordCount, startsOf, finalsOf, transitionsOf, recordsWith, outcomeWith, tableWith, readOf}
 use Rattle.tablereader.specs.declared.Outcome.{Outcome}
 use Rattle.tablereader.specs.declared.Outcome.the-variants.{Taken, Ended, WrongByte, NotANumber, OutOfRange, NotRising, BytesFollow}
 use Rattle.tablereader.specs.declared.header.Header.{Header}
@@ -77,10 +78,6 @@ read-shaped text = go (eqb (numberOf (outcomeWith text (headerOf text))) 0)
 
 -- ---- the records
 
--- the records of a file: the header, those of the start states, of the final states and of the transitions
-abbrev pub mostRecords : ℕ
-mostRecords = 1 + mostStates + mostStates + mostTransitions
-
 -- an outcome that comes with no record beyond m
 record Low (m : ℕ) (o : Outcome) : Type 0 where
   low : recordOf o ≤ m
@@ -124,7 +121,7 @@ module _ {m : ℕ} where
 outcome-with-low : (text : List ℕ) (h : Header) → Counted h → Low mostRecords (outcomeWith text h)
 unfolding outcomeWith recordsWith startsOf finalsOf transitionsOf statesFrom transitionsFrom
 outcome-with-low text h c =
-    let all : 1 + h .starts + h .finals + h .transitions ≤ mostRecords = omega (arith, c .few-starts, c .few-finals, c .few-transitions) in
+    let all : recordCount h ≤ mostRecords = omega (arith, c .few-starts, c .few-finals, c .few-transitions) in
     let some : 1 + h .starts ≤ mostRecords = omega arith in
     let more : 1 + h .starts + h .finals ≤ mostRecords = omega arith in
     let none : Low mostRecords Taken = record { low = omega arith } in
