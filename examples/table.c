@@ -20,7 +20,7 @@ static uint16_t path_a[YOTSELINA_WITNESS], path_b[YOTSELINA_WITNESS];
 static uint8_t output_x[YOTSELINA_WITNESS_OUTPUT], output_y[YOTSELINA_WITNESS_OUTPUT];
 static uint8_t output[YOTSELINA_OUTPUT];
 
-/* Reads the file's first YOTSELINA_FILE + 1 bytes, so that the library sees one that is too long. Returns how many, or -1. */
+/* Reads the file's first YOTSELINA_FILE + 1 bytes, so that the library refuses a longer one. Returns how many, or -1. */
 static long read_file(const char *name)
 {
     FILE *stream = fopen(name, "rb");

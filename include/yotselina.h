@@ -38,7 +38,7 @@
  *
  *   Checked in this order: 100; the file's refusals, from left to right: 1 to 6, and of two files those of the first, then those of the
  *   second; then those of the call, in the order that stands with it. docs/MANUAL.md has a cure for each. (8 is for table values that were
- *   not read from a file, and does not come from here. No refusal has the number 12.)
+ *   not read from a file, and does not come from here. There is no number 12.)
  *
  * WHAT IS LEFT UNCHANGED
  *   A refused call changes nothing of what is lent, `answer` included. A call that is done changes only what it says that it writes: places

@@ -13,6 +13,7 @@ use Rattle.records.specs.Reading.{numberAt, fieldsFault, valuesAt, recor
 use Rattle.records.specs.declared.reading.Range.{Range}
 
 module _ (text rest : List ℕ) where
+  -- the text that goes on is not shorter
   longer : length text ≤ length (text ++ rest)
   longer = omega (arith, length-append text rest)
 
@@ -22,27 +23,32 @@ module _ (text rest : List ℕ) where
       ap (take n) (drop-append-le at text rest (omega arith))
       ∙ take-append-le n (drop at text) rest (omega (arith, length-drop at text))
 
+  -- a byte that must stand there
   byte-behind : (at b : ℕ) → at < length text → byteFault (text ++ rest) at b ≡ byteFault text at b
   unfolding byteFault
   byte-behind at b h = rw (lt-ltb at (length (text ++ rest)) (omega (arith, longer)), lt-ltb at (length text) h, List·getD-append text rest 0 at h)
 
+  -- a field, held against its range
   pub number-behind : (at : ℕ) (r : Range) → at + columns ≤ length text → numberAt (text ++ rest) at r ≡ numberAt text at r
   unfolding numberAt fieldOf
   number-behind at r h =
       rw (le-leb (at + columns) (length (text ++ rest)) (omega (arith, longer)), le-leb (at + columns) (length text) h, stretch at columns h)
 
+  -- the first fault of the fields
   fields-behind : (at : ℕ) (ranges : List Range) → at + columns * length ranges ≤ length text
       → fieldsFault (text ++ rest) at ranges ≡ fieldsFault text at ranges
   unfolding fieldsFault
   fields-behind at [] h = refl
   fields-behind at (r ∷ ranges) h = rw (number-behind at r (omega arith), fields-behind (at + columns) ranges (omega arith))
 
+  -- and their values
   values-behind : (at : ℕ) (ranges : List Range) → at + columns * length ranges ≤ length text
       → valuesAt (text ++ rest) at ranges ≡ valuesAt text at ranges
   unfolding valuesAt
   values-behind at [] h = refl
   values-behind at (r ∷ ranges) h = rw (number-behind at r (omega arith), values-behind (at + columns) ranges (omega arith))
 
+  -- the whole record
   pub record-behind : (at letter : ℕ) (ranges : List Range) → at + recordSize (length ranges) ≤ length text
       → recordAt (text ++ rest) at letter ranges ≡ recordAt text at letter ranges
   unfolding recordAt recordFault

@@ -1,14 +1,18 @@
 -- What is printed, said of the file and the input word alone: what the contracts promise comes to `VerdictPrinted` and `TranslationPrinted`. The
 -- buffers are lent in full, so neither 7 nor 8 is ever printed. For a refused file and for a functional transducer the contracts determine all that
 -- is left in the buffer; of a split table document 01 leaves open which witness, and which output, is printed. Assumes nothing.
-use mathlib.Core.Path.{_≡_, sym, ap, _∙_}
-use mathlib.Core.Bool.{true, false}
+use mathlib.Core.Path.{_≡_, refl, sym, ap, _∙_}
+use mathlib.Core.Bool.{Bool, true, false}
 use mathlib.Core.List.{List}
 use mathlib.Core.Logic.{_⊎_, inl, inr}
-use Prim.Native.Nat.{ℕ}
+use Prim.Native.Nat.{ℕ, _≤_}
 use native.Mathlib.Decide.{ℕ-discrete}
 use native.Mathlib.Omega.{arith}
+use borrow.Author.Tests.{leb-true, leb-false}
+use lib.Dec.{leb}
 use lib.ListN.{length, take, length-replicate}
+use lib.Seq.{length-take-le, take-all}
+use Rattle.transducer.specs.Refusals.{wordTooLong}
 use Rattle.transducer.specs.Transition.{bytesOf}
 use Rattle.transducer.specs.Paths.{Functional}
 use Rattle.buffers.specs.Put.{Puts}
@@ -17,6 +21,7 @@ use Rattle.buffers.proofs.PutLaws.{front-put}
 use Rattle.translator.specs.Words as words
 use Rattle.translator.specs.Translated.{Outcome, Translated}
 use Rattle.translator.specs.declared.Translation.{Translation}
+use Rattle.translator.proofs.RefusalLaws.{refusal-long}
 use Rattle.witness.specs.Showing.{Buffers}
 use Rattle.functionality.specs.Decided.{longEnough, fullOf, refusalOf, verdictOf, Decided}
 use Rattle.functionality.specs.declared.Verdict.{Verdict}
@@ -32,7 +37,7 @@ use Rattle.engine.specs.declared.Judgement.{Judgement}
 use Rattle.engine.specs.declared.FileTranslation.{FileTranslation}
 use Rattle.engine.proofs.EngineLaws.{judged-determined, file-translated-determined}
 use Rattle.listing.specs.Listing.{mostTranslated}
-use Rattle.report.specs.Report.{readBytes, lent, judgementListing, VerdictReport, lentOutput, answerListing, TranslationReport}
+use Rattle.report.specs.Report.{readBytes, readCodes, lent, judgementListing, VerdictReport, lentOutput, answerListing, TranslationReport}
 use Rattle.report.specs.Printed.{VerdictPrinted, TranslationPrinted, FirstBytes}
 use Rattle.report.proofs.ReportLaws.{lent-sized, refusal-listed, verdict-listed, refusal-answered, output-answered}
 
@@ -113,9 +118,9 @@ pub translation-printed : {f input out₀ out : List ℕ} {n : ℕ} (h : Transla
     → TranslationPrinted f input (answerListing (h .answer) (h .output))
 translation-printed h = answered-printed (h .translated)
 
--- ---- the first bytes of a file
+-- ---- the first bytes
 
--- they are read to the same as the whole
+-- those of a file are read to the same as the whole
 seen : (f : List ℕ) → readOf (take readBytes f) ≡ readOf f
 seen f = longest-file .seen f readBytes (omega arith)
 
@@ -135,18 +140,44 @@ verdict-seen f listing (VerdictPrinted.single t k u e) =
 verdict-seen f listing (VerdictPrinted.split t k u s e) =
     VerdictPrinted.split (rw (number-seen f) at t) (rw (table-seen f) at k) (rw (table-seen f) at u) (rw (table-seen f) at s) e
 
-translation-seen : (f input listing : List ℕ) → TranslationPrinted (take readBytes f) input listing → TranslationPrinted f input listing
-translation-seen f input listing (TranslationPrinted.refused n e) =
+file-seen : (f input listing : List ℕ) → TranslationPrinted (take readBytes f) input listing → TranslationPrinted f input listing
+file-seen f input listing (TranslationPrinted.refused n e) =
     TranslationPrinted.refused (rw (number-seen f) at n) (rw (number-seen f, record-seen f) at e)
-translation-seen f input listing (TranslationPrinted.unfit t z e) =
+file-seen f input listing (TranslationPrinted.unfit t z e) =
     TranslationPrinted.unfit (rw (number-seen f) at t) (rw (table-seen f) at z) (rw (table-seen f) at e)
-translation-seen f input listing (TranslationPrinted.unread t z k e) =
+file-seen f input listing (TranslationPrinted.unread t z k e) =
     TranslationPrinted.unread (rw (number-seen f) at t) (rw (table-seen f) at z) (rw (table-seen f) at k) e
-translation-seen f input listing (TranslationPrinted.written t z a e) =
+file-seen f input listing (TranslationPrinted.written t z a e) =
     TranslationPrinted.written (rw (number-seen f) at t) (rw (table-seen f) at z) (rw (table-seen f) at a) e
 
+-- a word with more codes than are read is refused by those
+long-word : (f input listing : List ℕ) → readCodes ≤ length input → TranslationPrinted f (take readCodes input) listing → TranslationPrinted f input listing
+long-word f input listing long p = go p
+  where
+    size : length (take readCodes input) ≡ readCodes
+    size = length-take-le readCodes input long
+
+    part : words.refusalOf (tableOf f) (take readCodes input) ≡ wordTooLong
+    part = refusal-long (tableOf f) (take readCodes input) (read-accepted f) (omega (arith, size))
+
+    whole : words.refusalOf (tableOf f) input ≡ wordTooLong
+    whole = refusal-long (tableOf f) input (read-accepted f) (omega arith)
+
+    go : TranslationPrinted f (take readCodes input) listing → TranslationPrinted f input listing
+    go (TranslationPrinted.refused n e) = TranslationPrinted.refused n e
+    go (TranslationPrinted.unfit t z e) = TranslationPrinted.unfit t (λ none. omega (arith, whole, none)) (e ∙ rw (part, whole))
+    go (TranslationPrinted.unread t z k e) = absurd (omega (arith, part, z))
+    go (TranslationPrinted.written t z a e) = absurd (omega (arith, part, z))
+
+word-seen : (f input listing : List ℕ) → TranslationPrinted f (take readCodes input) listing → TranslationPrinted f input listing
+word-seen f input listing p = go (leb readCodes (length input)) refl
+  where
+    go : (x : Bool) → leb readCodes (length input) ≡ x → TranslationPrinted f input listing
+    go true e = long-word f input listing (leb-true readCodes (length input) e) p
+    go false e = let short = leb-false readCodes (length input) e in rw (take-all readCodes input (omega arith)) at p
+
 pub first-bytes : FirstBytes
-first-bytes = record { verdict = verdict-seen; translation = translation-seen }
+first-bytes = record { verdict = verdict-seen; translation = λ f input listing p. word-seen f input listing (file-seen f (take readCodes input) listing p) }
 
 -- ---- what the contracts determine
 

@@ -14,7 +14,7 @@ use Rattle.witness.specs.Showing.{Buffers, Shown}
 use Rattle.functionality.specs.Decided.{UsefulCount}
 use Rattle.engine.specs.Engine.{numberOf, recordOf, Taken, tableOf}
 use Rattle.listing.specs.Listing.{verdictListing, refusalListing, translationListing}
-use Rattle.report.specs.Report.{readBytes}
+use Rattle.report.specs.Report.{readBytes, readCodes}
 
 -- the listing of the verdict on the file f
 pub data VerdictPrinted (f listing : List ℕ) : Type 0 where
@@ -40,7 +40,8 @@ pub data TranslationPrinted (f input listing : List ℕ) : Type 0 where
   written : {y : OutputWord} → Taken f → refusalOf (tableOf f) input ≡ 0 → Relates (tableOf f) (wordOf input) y
       → listing ≡ translationListing (bytesOf y) → TranslationPrinted f input listing
 
--- the programs read the first 13,203 bytes of a file: what is printed of these is what document 01 has them print of the whole file
+-- the programs read one byte more of a file than the longest has, and one code more of a word: what is printed of these is what document 01 has them
+-- print of the whole file and the whole word
 pub record FirstBytes : Type 0 where
   pub verdict : (f listing : List ℕ) → VerdictPrinted (take readBytes f) listing → VerdictPrinted f listing
-  pub translation : (f input listing : List ℕ) → TranslationPrinted (take readBytes f) input listing → TranslationPrinted f input listing
+  pub translation : (f input listing : List ℕ) → TranslationPrinted (take readBytes f) (take readCodes input) listing → TranslationPrinted f input listing

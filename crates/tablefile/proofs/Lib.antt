@@ -1,4 +1,4 @@
--- The round trips, for the crates above: `RoundTrips` has them all; `Repeats`: a repeated line is kept. The first four serve this crate's own proofs, from
+-- The round trips, for the crates above: `RoundTrips` has them all; `Repeats`: a repeated line is kept. The others serve this crate's own proofs, from
 -- records up.
 mod Rising
 mod Filled

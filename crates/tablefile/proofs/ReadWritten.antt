@@ -1,9 +1,9 @@
 -- Reading a written file gives the transducer that was written. Each part of the file is read as its part of the transducer, one behind the other, and
--- nothing follows the last. Assumes nothing.
+-- nothing follows the last; where something does, the file is refused with 6. Assumes nothing.
 use mathlib.Core.Path.{_≡_, refl, sym, ap, _∙_}
 use mathlib.Core.Bool.{true}
-use mathlib.Core.List.{List, [], _∷_, _++_, flatten}
-use Prim.Native.Nat.{ℕ, _+_, _*_, _<_}
+use mathlib.Core.List.{List, [], _∷_, _++_, append-nil}
+use Prim.Native.Nat.{ℕ, _+_, _*_, _-_, _≤_, _<_}
 use native.Mathlib.Omega.{arith}
 use borrow.Author.Tests.{le-ltb}
 use lib.ListN.{length, getD, drop, length-drop}
@@ -26,11 +26,12 @@ use Rattle.tablereader.specs.Record.{headerRanges, headerSize, stateSize}
 use Rattle.tablereader.specs.Header.{countsOf, headerOf}
 use Rattle.tablereader.specs.States.{statesFrom}
 use Rattle.tablereader.specs.Transitions.{transitionsFrom}
-use Rattle.tablereader.specs.Reader.{endFault, startsOf, finalsOf, transitionsOf, recordsWith, outcomeWith, tableWith, readOf}
+use Rattle.tablereader.specs.Reader.{endFault, recordCount, startsOf, finalsOf, transitionsOf, recordsWith, outcomeWith, tableWith, readOf}
 use Rattle.tablereader.specs.declared.header.Header.{Header}
-use Rattle.tablereader.specs.declared.Outcome.the-variants.{Taken}
+use Rattle.tablereader.specs.declared.Outcome.the-variants.{Taken, BytesFollow}
+use Rattle.tablereader.proofs.TakenLaws.{end-follows}
 use Rattle.tablewriter.specs.File.{statesOf, sizeOf, stateBytes, transitionBytesBelow, headerBytes, writeOf}
-use Rattle.tablewriter.proofs.FileLaws.{file-parts}
+use Rattle.tablewriter.proofs.FileLaws.{file-then}
 use Rattle.transducer.proofs.LineLaws.{clear-same}
 use Rattle.tablewriter.proofs.LengthLaws.{size-most}
 use Rattle.tablefile.proofs.Rising.{add-states, set-rising}
@@ -56,7 +57,7 @@ used t v s j h =
 abbrev counts : Transducer → Header
 counts t = record { fault = 0; states = t .states; starts = sizeOf (t .starts); finals = sizeOf (t .finals); transitions = t .count }
 
-module _ (t : Transducer) (v : Valid t) (s : Shaped t) (text : List ℕ) (is : text ≡ writeOf t) where
+module _ (t : Transducer) (v : Valid t) (s : Shaped t) (text rest : List ℕ) (is : text ≡ writeOf t ++ rest) where
   -- the parts of the file
   starts : List ℕ
   starts = stateBytes letterS (statesOf (t .starts))
@@ -68,14 +69,14 @@ module _ (t : Transducer) (v : Valid t) (s : Shaped t) (text : List ℕ) (is : t
   transitions = transitionBytesBelow t (t .count)
 
   header : RecordRead text 0 letterT headerRanges (t .states ∷ sizeOf (t .starts) ∷ sizeOf (t .finals) ∷ t .count ∷ [])
-      (starts ++ (finals ++ (transitions ++ [])))
-  unfolding flatten headerBytes starts finals transitions
+      (starts ++ (finals ++ (transitions ++ rest)))
+  unfolding headerBytes starts finals transitions
   header =
       let states = v .few-states in
       let lines = v .few-transitions in
       let some = size-most (t .starts) in
       let last = size-most (t .finals) in
-      record-read text 0 letterT headerRanges _ (starts ++ (finals ++ (transitions ++ []))) (
+      record-read text 0 letterT headerRanges _ (starts ++ (finals ++ (transitions ++ rest))) (
         record { above = v .some-state; below = states; rises = omega arith; small = omega arith },
         (
           record { above = omega arith; below = some; rises = omega arith; small = omega arith },
@@ -85,70 +86,82 @@ module _ (t : Transducer) (v : Valid t) (s : Shaped t) (text : List ℕ) (is : t
           ),
         ),
       )
-      (is ∙ file-parts t)
+      (is ∙ file-then t rest)
 
   header-same : headerOf text ≡ counts t
   unfolding headerOf
   header-same = ap countsOf (header .read)
 
   -- the records of a set of states give the set
-  record SetRead (letter at rec : ℕ) (set : StateSet) (rest : List ℕ) : Type 0 where
+  record SetRead (letter at rec : ℕ) (set : StateSet) (after : List ℕ) : Type 0 where
     read : statesFrom (sizeOf set) text letter (t .states) at rec ≡ record { outcome = Taken; set = set }
-    follows : drop (at + stateSize * sizeOf set) text ≡ rest
+    follows : drop (at + stateSize * sizeOf set) text ≡ after
 
-  set-read : (letter at rec : ℕ) (set : StateSet) (rest : List ℕ) → length (set .member) ≡ mostStates → ((q : ℕ) → In set q → q < t .states)
-      → drop at text ≡ stateBytes letter (statesOf set) ++ rest → SetRead letter at rec set rest
+  set-read : (letter at rec : ℕ) (set : StateSet) (after : List ℕ) → length (set .member) ≡ mostStates → ((q : ℕ) → In set q → q < t .states)
+      → drop at text ≡ stateBytes letter (statesOf set) ++ after → SetRead letter at rec set after
   unfolding statesFrom sizeOf
-  set-read letter at rec set rest long below e =
+  set-read letter at rec set after long below e =
       let few = v .few-states in
-      let r = states-read text letter (t .states) at 0 rec noStates (statesOf set) rest (omega arith) (set-rising set (t .states) few below) e in
+      let r = states-read text letter (t .states) at 0 rec noStates (statesOf set) after (omega arith) (set-rising set (t .states) few below) e in
       record { read = rw (add-states set long) at (r .read); follows = r .follows }
 
-  starts-read : SetRead letterS headerSize 1 (t .starts) (finals ++ (transitions ++ []))
+  starts-read : SetRead letterS headerSize 1 (t .starts) (finals ++ (transitions ++ rest))
   unfolding starts
-  starts-read = set-read letterS headerSize 1 (t .starts) (finals ++ (transitions ++ [])) (s .starts) (v .start-state) (header .follows)
+  starts-read = set-read letterS headerSize 1 (t .starts) (finals ++ (transitions ++ rest)) (s .starts) (v .start-state) (header .follows)
 
-  finals-read : SetRead letterF (headerSize + stateSize * sizeOf (t .starts)) (1 + sizeOf (t .starts)) (t .finals) (transitions ++ [])
+  finals-read : SetRead letterF (headerSize + stateSize * sizeOf (t .starts)) (1 + sizeOf (t .starts)) (t .finals) (transitions ++ rest)
   unfolding finals
   finals-read =
-      set-read letterF (headerSize + stateSize * sizeOf (t .starts)) (1 + sizeOf (t .starts)) (t .finals) (transitions ++ []) (s .finals) (v .final-state)
-      (starts-read .follows)
+      set-read letterF (headerSize + stateSize * sizeOf (t .starts)) (1 + sizeOf (t .starts)) (t .finals) (transitions ++ rest) (s .finals)
+      (v .final-state) (starts-read .follows)
 
-  -- the records of the transitions give them, and nothing follows
+  -- the records of the transitions give them, and what is behind the file follows
   record AllRead (at rec : ℕ) : Type 0 where
     end : ℕ
     read : transitionsFrom (t .count) text (t .states) at rec ≡ record { outcome = Taken; next = end; transitions = t .transitions }
-    follows : drop end text ≡ []
+    follows : drop end text ≡ rest
 
-  transitions-there : (place rec : ℕ) → drop place text ≡ transitions ++ [] → AllRead place rec
+  transitions-there : (place rec : ℕ) → drop place text ≡ transitions ++ rest → AllRead place rec
   unfolding transitionsFrom blankTransducer transitions transitionBytesBelow
   transitions-there place rec e =
       let few = v .few-states in
       let list = firsts (t .count) (at t) in
-      let r = transitions-read text (t .states) place rec 0 (blankTransducer .transitions) list [] (omega arith) (used t v s) e in
+      let r = transitions-read text (t .states) place rec 0 (blankTransducer .transitions) list rest (omega arith) (used t v s) e in
       record { end = r .end; read = rw (length-firsts (t .count) (at t), stored t v s) at (r .read); follows = r .follows }
 
   all-read : AllRead (headerSize + stateSize * sizeOf (t .starts) + stateSize * sizeOf (t .finals)) (1 + sizeOf (t .starts) + sizeOf (t .finals))
   all-read = transitions-there _ _ (finals-read .follows)
 
-  ends : endFault text (all-read .end) ≡ 0
-  unfolding endFault
-  ends =
-      let over = sym (length-drop (all-read .end) text) ∙ ap length (all-read .follows) in
-      simp (le-ltb (all-read .end) (length text) (omega arith))
+  -- so many bytes are behind the last record
+  left : length text - all-read .end ≡ length rest
+  left = sym (length-drop (all-read .end) text) ∙ ap length (all-read .follows)
 
-  outcome-taken : outcomeWith text (counts t) ≡ Taken
+  -- the end alone decides
+  outcome-end : outcomeWith text (counts t) ≡ outcomeOf (endFault text (all-read .end)) (recordCount (counts t))
   unfolding outcomeWith recordsWith startsOf finalsOf transitionsOf outcomeOf _▸_
-  outcome-taken = rw (starts-read .read, finals-read .read, all-read .read, ends)
+  outcome-end = rw (starts-read .read, finals-read .read, all-read .read)
 
   table-same : tableWith text (counts t) ≡ t
   unfolding tableWith startsOf finalsOf transitionsOf
   table-same = rw (starts-read .read, finals-read .read, all-read .read)
 
-  text-read : readOf text ≡ record { outcome = Taken; table = t }
-  unfolding readOf
-  text-read = rw (header-same, outcome-taken, table-same)
+  text-read : length rest ≡ 0 → readOf text ≡ record { outcome = Taken; table = t }
+  unfolding readOf outcomeOf endFault
+  text-read none = rw (header-same, outcome-end, table-same, le-ltb (all-read .end) (length text) (omega (arith, left)))
+
+  text-followed : 1 ≤ length rest → readOf text .outcome ≡ BytesFollow (recordCount (headerOf text))
+  unfolding readOf outcomeOf
+  text-followed some = rw (header-same, outcome-end, end-follows text (all-read .end) (omega (arith, left)))
 
 -- reading a written table gives that table
 pub read-written : (t : Transducer) → acceptedOf t ≡ true → Shaped t → readOf (writeOf t) ≡ record { outcome = Taken; table = t }
-read-written t v s = text-read t (accepted-valid t v) s (writeOf t) refl
+read-written t v s = text-read t (accepted-valid t v) s (writeOf t) [] (sym (append-nil (writeOf t))) refl
+
+-- with bytes behind it it is refused with 6, at the count of its records
+pub read-followed : (t : Transducer) → acceptedOf t ≡ true → Shaped t → (rest : List ℕ) → 1 ≤ length rest
+    → readOf (writeOf t ++ rest) .outcome ≡ BytesFollow (recordCount (headerOf (writeOf t)))
+read-followed t v s rest some =
+    let valid = accepted-valid t v in
+    let alone = header-same t valid s (writeOf t) [] (sym (append-nil (writeOf t))) in
+    let with-rest = header-same t valid s (writeOf t ++ rest) rest refl in
+    text-followed t valid s (writeOf t ++ rest) rest refl some ∙ ap (λ h. BytesFollow (recordCount h)) (with-rest ∙ sym alone)

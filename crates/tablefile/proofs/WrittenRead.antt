@@ -79,7 +79,8 @@ module _ (text : List ℕ) (h : Header) (c : Counted h) where
   unfolding tableWith finalsOf
   finals-back p = set-back letterF (h .finals) (headerSize + stateSize * h .starts) (1 + h .starts) (p .finals)
 
-  all-back : Passed text h → drop (headerSize + stateSize * h .starts + stateSize * h .finals) text ≡ transitionBytesBelow (tableWith text h) (tableWith text h .count) ++ []
+  all-back : Passed text h
+      → drop (headerSize + stateSize * h .starts + stateSize * h .finals) text ≡ transitionBytesBelow (tableWith text h) (tableWith text h .count) ++ []
   unfolding tableWith transitionsOf
   all-back p =
       rw (← end-back text (transitionsOf text h .next) (p .end))

@@ -2,7 +2,7 @@
 -- that meet the contracts of the reader (what it returns is `readOf` of the text) and of the writer (`Wrote`).
 use mathlib.Core.Path.{_≡_}
 use mathlib.Core.Bool.{true}
-use mathlib.Core.List.{List}
+use mathlib.Core.List.{List, _++_}
 use Prim.Native.Nat.{ℕ, _+_, _*_, _≤_}
 use lib.ListN.{length, take}
 use Rattle.records.specs.Letters.{mostBytes}
@@ -10,8 +10,9 @@ use Rattle.buffers.specs.Put.{put}
 use Rattle.transducer.specs.Valid.{Shaped}
 use Rattle.transducer.specs.Accepted.{acceptedOf}
 use Rattle.transducer.specs.declared.Transducer.{Transducer}
-use Rattle.tablereader.specs.Reader.{readOf}
-use Rattle.tablereader.specs.declared.Outcome.the-variants.{Taken}
+use Rattle.tablereader.specs.Header.{headerOf}
+use Rattle.tablereader.specs.Reader.{recordCount, readOf}
+use Rattle.tablereader.specs.declared.Outcome.the-variants.{Taken, BytesFollow}
 use Rattle.tablereader.specs.declared.Reading.{Reading}
 use Rattle.tablewriter.specs.File.{sizeOf, allOutputs, writeOf}
 use Rattle.tablewriter.specs.Writing.{numberOf, lengthOf, Wrote}
@@ -34,7 +35,7 @@ pub record LongestTaken : Type 0 where
   pub taken : readOf file .outcome ≡ Taken
   pub size : length file ≡ mostBytes
 
--- the round trips, of the definitions and of the calls; what is read is valid; and how long a written file is
+-- the round trips, of the definitions and of the calls; what is read is valid; how long a file is, and that nothing follows it
 pub record RoundTrips : Type 0 where
   -- "reading a written table gives that table"
   pub read-written : (t : Transducer) → acceptedOf t ≡ true → Shaped t → readOf (writeOf t) ≡ takenAs t
@@ -52,5 +53,7 @@ pub record RoundTrips : Type 0 where
   pub written-length : (t : Transducer) → length (writeOf t) ≡ 18 + 6 * (sizeOf (t .starts) + sizeOf (t .finals)) + 18 * t .count + 4 * allOutputs t
   -- "at most 13,202"
   pub written-at-most : (t : Transducer) → acceptedOf t ≡ true → length (writeOf t) ≤ mostBytes
-  -- and not fewer: a file has so many
+  -- and some file has as many
   pub longest-taken : LongestTaken
+  -- a file that is taken is refused with bytes behind it, however many: with 6, at the count of its records
+  pub followed : (f rest : List ℕ) → readOf f .outcome ≡ Taken → 1 ≤ length rest → readOf (f ++ rest) .outcome ≡ BytesFollow (recordCount (headerOf f))

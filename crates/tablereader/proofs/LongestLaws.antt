@@ -10,6 +10,7 @@ use lib.Dec.{leb}
 use lib.ListN.{length, take, drop, set, length-append, length-replicate, take-append-drop}
 use lib.Seq.{length-take-le, take-all}
 use Rattle.transducer.specs.Limits.{mostOutputs, mostCode}
+use Rattle.transducer.specs.Refusals.{ended, bytesFollow}
 use Rattle.transducer.specs.Blank.{blankTransducer}
 use Rattle.transducer.specs.StateSet.{noStates}
 use Rattle.transducer.specs.declared.StateSet.{StateSet}
@@ -19,7 +20,7 @@ use Rattle.records.specs.Letters.{letterT, letterS, letterF, letterL, mostBytes
 use Rattle.records.specs.Reading.{range}
 use Rattle.records.specs.declared.reading.Number.{Number}
 use Rattle.records.proofs.Behind.{number-behind, record-behind}
-use Rattle.tablereader.specs.Outcome.{outcomeOf, _▸_}
+use Rattle.tablereader.specs.Outcome.{numberOf, outcomeOf, _▸_}
 use Rattle.tablereader.specs.Record.{headerRanges, stateRanges, headerSize, stateSize, transitionSize}
 use Rattle.tablereader.specs.Header.{countsOf, headerOf}
 use Rattle.tablereader.specs.States.{stateRecord, readStates, statesFrom}
@@ -29,12 +30,14 @@ use Rattle.tablereader.specs.Longest.{LongestFile}
 use Rattle.tablereader.specs.declared.Outcome.{Outcome}
 use Rattle.tablereader.specs.declared.Outcome.the-variants.{Taken, BytesFollow}
 use Rattle.tablereader.specs.declared.header.Header.{Header}
+use Rattle.tablereader.proofs.Outcomes.{taken-number, number-low}
 use Rattle.tablereader.proofs.HeaderRecord.{Counted, counted}
 use Rattle.tablereader.proofs.TransitionRecords.{ranges, few-codes, transition-next}
 use Rattle.tablereader.proofs.TakenLaws.{end-passes, end-follows, taken-passed}
 
 -- ---- how far the records reach
 
+-- each transition's record has at most so many bytes
 transitions-next : (k : ℕ) (text : List ℕ) (n at rec i : ℕ) (outcome : Outcome) (l : List Transition)
     → readTransitions k text n at rec i outcome l .next ≤ at + transitionSize * k
 unfolding readTransitions
@@ -70,6 +73,13 @@ at-most text e =
     let next = transitionsOf text (headerOf text) .next in
     omega (arith, end-passes text next (taken-passed text (headerOf text) e .end), next-at-most text)
 
+refused : (text : List ℕ) → mostBytes < length text → (ended ≤ numberOf (readOf text .outcome)) × (numberOf (readOf text .outcome) ≤ bytesFollow)
+refused text h = (go (numberOf (readOf text .outcome)) refl, number-low (readOf text .outcome))
+  where
+    go : (n : ℕ) → numberOf (readOf text .outcome) ≡ n → ended ≤ n
+    go zero e = absurd (omega (arith, at-most text (taken-number (readOf text .outcome) e)))
+    go (suc n) e = omega arith
+
 longer : (text : List ℕ) → mostBytes < length text → recordsWith text (headerOf text) ≡ Taken
     → readOf text .outcome ≡ BytesFollow (recordCount (headerOf text))
 unfolding readOf outcomeWith outcomeOf _▸_
@@ -79,6 +89,7 @@ longer text h e =
 
 -- ---- what follows
 
+-- the records lie within a text that is longer than the longest file, so that they are read alike where it goes on
 module _ (text rest : List ℕ) where
   states-behind : (k letter n at low rec : ℕ) (outcome : Outcome) (s : StateSet) → at + stateSize * k ≤ length text
       → readStates k (text ++ rest) letter n at low rec outcome s ≡ readStates k text letter n at low rec outcome s
@@ -168,4 +179,4 @@ seen text n h = go (leb n (length text)) refl
     go false e = let less = leb-false n (length text) e in ap readOf (take-all n text (omega arith))
 
 pub longest-file : LongestFile
-longest-file = record { bytes = refl; at-most = at-most; longer = longer; seen = seen }
+longest-file = record { bytes = refl; at-most = at-most; refused = refused; longer = longer; seen = seen }

@@ -21,7 +21,7 @@ pub taken-number : (o : Outcome) → numberOf o ≡ 0 → o ≡ Taken
 unfolding outcomeOf
 taken-number o e = sym (outcome-told o) ∙ rw e
 
--- a refusal of a file has one of the numbers 1 to 6
+-- the number of an outcome is at most 6
 pub number-low : (o : Outcome) → numberOf o ≤ bytesFollow
 number-low Taken = omega arith
 number-low (Ended at) = omega arith

@@ -1,4 +1,4 @@
--- A file is taken exactly when each of its checks passes. Assumes nothing.
+-- A file that is taken has passed each of its checks. Assumes nothing.
 use mathlib.Core.Path.{_≡_, refl, ap}
 use mathlib.Core.Bool.{Bool, true, false, cond}
 use mathlib.Core.List.{List}
@@ -15,7 +15,7 @@ use Rattle.tablereader.specs.declared.Outcome.the-variants.{Taken, Ended
 use Rattle.tablereader.specs.declared.header.Header.{Header}
 use Rattle.tablereader.proofs.Outcomes.{taken-number}
 
--- two readings in a row are taken if both are
+-- two readings in a row are taken only if both are
 pub then-taken : (a b : Outcome) → a ▸ b ≡ Taken → (a ≡ Taken) × (b ≡ Taken)
 unfolding _▸_
 then-taken a b e = go (eqb (numberOf a) 0) refl e

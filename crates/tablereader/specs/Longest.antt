@@ -4,18 +4,23 @@ use mathlib.Core.Path.{_≡_}
 use mathlib.Core.List.{List}
 use Prim.Native.Nat.{ℕ, _≤_, _<_}
 use lib.ListN.{length, take}
+use Rattle.transducer.specs.Refusals.{ended, bytesFollow}
 use Rattle.records.specs.Letters.{mostBytes}
+use Rattle.tablereader.specs.Outcome.{numberOf}
 use Rattle.tablereader.specs.Header.{headerOf}
 use Rattle.tablereader.specs.Reader.{recordCount, recordsWith, readOf}
 use Rattle.tablereader.specs.declared.Outcome.the-variants.{Taken, BytesFollow}
 
+-- how long a file can be, and what becomes of a longer one
 pub record LongestFile : Type 0 where
   -- what the limits make is the document's number: 18 + 6 × 64 + (18 + 32) × 256
   pub bytes : mostBytes ≡ 13202
   -- a text that has passed the checks 1 to 6 has at most so many bytes
   pub at-most : (text : List ℕ) → readOf text .outcome ≡ Taken → length text ≤ mostBytes
-  -- a longer text is refused: where its records pass the checks 1 to 5, with 6, at the count of records
+  -- a longer text is refused with one of 1 to 6
+  pub refused : (text : List ℕ) → mostBytes < length text → (ended ≤ numberOf (readOf text .outcome)) × (numberOf (readOf text .outcome) ≤ bytesFollow)
+  -- where its records pass the checks 1 to 5 with 6, at the count of records
   pub longer : (text : List ℕ) → mostBytes < length text → recordsWith text (headerOf text) ≡ Taken
       → readOf text .outcome ≡ BytesFollow (recordCount (headerOf text))
-  -- its first bytes, if they are more than the longest file has, are read to the same as the whole
+  -- the first n bytes of a text, n more than the longest file has, are read to the same as the whole
   pub seen : (text : List ℕ) (n : ℕ) → mostBytes < n → readOf (take n text) ≡ readOf text

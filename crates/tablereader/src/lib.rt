@@ -87,8 +87,8 @@ pub fn read(text: &[u8]) -> Reading
     }
 }
 
-// The refusal's number after the last record, which ends before `at`: bytes may follow. No length is checked: a file that nothing follows is not longer
-// than the longest (specs/Longest.antt).
+// The refusal's number after the last record, which ends before `at`: bytes may follow. No length is checked: where nothing follows, the text is not
+// longer than the longest file (specs/Longest.antt).
 fn end_fault(text: &[u8], at: usize) -> u8
     ensures { λ r. ⌜ r ≡ endFault (now (text .entry)) at ⌝ }
 {
@@ -138,7 +138,7 @@ impl Outcome {
     }
 }
 
-// The outcome with a number, at a record.
+// The outcome with a number of 0 to 6, at a record.
 pub fn outcome_of(fault: u8, at: u16) -> Outcome
     ensures { λ r. ⌜ r ≡ outcomeOf fault at ⌝ }
 {

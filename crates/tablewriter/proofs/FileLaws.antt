@@ -94,3 +94,10 @@ file-row t = refl
 pub file-parts : (t : Transducer) → writeOf t ≡ flatten (fileParts t)
 unfolding writeOf flatten
 file-parts t = simp (append-nil, append-assoc)
+
+-- the same with something behind the file
+pub file-then : (t : Transducer) (rest : List ℕ)
+    → writeOf t ++ rest
+    ≡ headerBytes t ++ (stateBytes letterS (statesOf (t .starts)) ++ (stateBytes letterF (statesOf (t .finals)) ++ (transitionBytesBelow t (t .count) ++ rest)))
+unfolding writeOf
+file-then t rest = simp append-assoc

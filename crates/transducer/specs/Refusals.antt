@@ -49,7 +49,7 @@ noInputCode = 10
 abbrev pub unread : ℕ
 unread = 11
 
--- 12 is not used again. It stood for a file over 13,202 bytes; every such file is refused with 1 to 6 (document 02, job 5)
+-- 12 is not used again: it stood for a file longer than the longest, and one of 1 to 6 refuses each of those (document 02, job 5)
 
 -- an input word or an output word is too long for the word test
 abbrev pub wordsTooLong : ℕ

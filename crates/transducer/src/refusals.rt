@@ -23,7 +23,7 @@ pub const WORD_TOO_LONG: u8 = 9;
 pub const NO_INPUT_CODE: u8 = 10;
 // No accepting path reads the input word.
 pub const UNREAD: u8 = 11;
-// 12 is not used again. It stood for a file over 13,202 bytes; every such file is refused with 1 to 6 (document 02, job 5).
+// 12 is not used again: it stood for a file longer than the longest, and one of 1 to 6 refuses each of those (document 02, job 5).
 // An input word or an output word is too long for the word test.
 pub const WORDS_TOO_LONG: u8 = 13;
 // A byte of an output word is no output code.
