@@ -19,7 +19,7 @@ pub record LongestFile : Type 0 where
   pub at-most : (text : List ℕ) → readOf text .outcome ≡ Taken → length text ≤ mostBytes
   -- a longer text is refused with one of 1 to 6
   pub refused : (text : List ℕ) → mostBytes < length text → (ended ≤ numberOf (readOf text .outcome)) × (numberOf (readOf text .outcome) ≤ bytesFollow)
-  -- where its records pass the checks 1 to 5 with 6, at the count of records
+  -- with 6, at the count of records, where its records pass the checks 1 to 5
   pub longer : (text : List ℕ) → mostBytes < length text → recordsWith text (headerOf text) ≡ Taken
       → readOf text .outcome ≡ BytesFollow (recordCount (headerOf text))
   -- the first n bytes of a text, n more than the longest file has, are read to the same as the whole
