@@ -1,5 +1,5 @@
 -- What document 01 has the programs print, said of the file and the input word alone. That the contracts promise this is `verdict-printed` and
--- `translation-printed` of proofs/PrintedLaws.antt; `first-bytes` there is `FirstBytes`.
+-- `translation-printed` of proofs/PrintedLaws.antt; `first-bytes` of proofs/FirstLaws.antt is `FirstBytes`.
 use mathlib.Core.Path.{_≡_}
 use mathlib.Core.Bool.{true, false}
 use mathlib.Core.List.{List, []}

@@ -1,7 +1,7 @@
 -- Writing what was read of a file that was taken gives the file's bytes. Each record that was taken is the one that is written of what it gave, and
 -- nothing follows the last. Assumes nothing.
 use mathlib.Core.Path.{_≡_, refl, sym, ap, _∙_}
-use mathlib.Core.List.{List, [], _∷_, _++_, flatten}
+use mathlib.Core.List.{List, [], _∷_, _++_, append-nil}
 use Prim.Native.Nat.{ℕ, _+_, _*_}
 use native.Mathlib.Omega.{arith}
 use lib.ListN.{length, drop, drop-of-length-le}
@@ -26,7 +26,7 @@ use Rattle.tablereader.specs.declared.Outcome.the-variants.{Taken}
 use Rattle.tablereader.proofs.HeaderRecord.{Counted, counted}
 use Rattle.tablereader.proofs.TakenLaws.{end-passes, Passed, taken-passed}
 use Rattle.tablewriter.specs.File.{statesOf, sizeOf, stateBytes, transitionBytesBelow, headerBytes, writeOf}
-use Rattle.tablewriter.proofs.FileLaws.{file-parts}
+use Rattle.tablewriter.proofs.FileLaws.{file-then}
 use Rattle.tablefile.proofs.Rising.{added-states}
 use Rattle.tablefile.proofs.Filled.{firsts-filled}
 use Rattle.tablefile.proofs.StateRecords.{states-back}
@@ -91,10 +91,10 @@ module _ (text : List ℕ) (h : Header) (c : Counted h) where
       → SetBack letterF (h .finals) (headerSize + stateSize * h .starts) (t .finals)
       → drop (headerSize + stateSize * h .starts + stateSize * h .finals) text ≡ transitionBytesBelow t (t .count) ++ []
       → text ≡ bytesOf h ++ drop headerSize text → writeOf t ≡ text
-  unfolding headerBytes flatten
+  unfolding headerBytes
   all-written t n k s f l e =
       let header : bytesOf h ≡ headerBytes t = rw (n, k, s .size, f .size) in
-      sym (e ∙ rw (header, s .bytes, f .bytes, l) (sym (file-parts t)))
+      sym (e ∙ rw (header, s .bytes, f .bytes, l) (sym (file-then t []) ∙ append-nil (writeOf t)))
 
   table-written : Passed text h → text ≡ bytesOf h ++ drop headerSize text → writeOf (tableWith text h) ≡ text
   unfolding tableWith

@@ -7,4 +7,6 @@ pub mod StateRecords
 pub mod TransitionRecords
 pub mod Validity
 pub mod ReadLaws
+mod Reach
+mod Behind
 pub mod LongestLaws

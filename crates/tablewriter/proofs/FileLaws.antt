@@ -1,7 +1,7 @@
 -- Laws of the file's bytes: what is put of one state and of one transition, and the parts that the loops put. Assumes nothing.
 use mathlib.Core.Path.{_≡_, refl, ap, _∙_}
 use mathlib.Core.Bool.{false}
-use mathlib.Core.List.{List, [], _∷_, _++_, flatMap, flatten, map-append, append-assoc, append-nil}
+use mathlib.Core.List.{List, [], _∷_, _++_, flatMap, map-append, append-assoc, append-nil}
 use mathlib.Core.Logic.{⊎-elim}
 use Prim.Native.Nat.{ℕ, zero, suc, _+_, _≤_, _<_}
 use native.Mathlib.Nat.{eq-or-lt-of-le}
@@ -91,11 +91,7 @@ pub file-row : (t : Transducer) → writeOf t ≡ below (inRow (fileParts t)) 4
 unfolding writeOf below
 file-row t = refl
 
-pub file-parts : (t : Transducer) → writeOf t ≡ flatten (fileParts t)
-unfolding writeOf flatten
-file-parts t = simp (append-nil, append-assoc)
-
--- the same with something behind the file
+-- the parts one behind the other, and something behind the file
 pub file-then : (t : Transducer) (rest : List ℕ)
     → writeOf t ++ rest
     ≡ headerBytes t ++ (stateBytes letterS (statesOf (t .starts)) ++ (stateBytes letterF (statesOf (t .finals)) ++ (transitionBytesBelow t (t .count) ++ rest)))
