@@ -26,7 +26,7 @@ use Rattle.tablereader.specs.Record.{headerRanges, headerSize, stateSize}
 use Rattle.tablereader.specs.Header.{countsOf, headerOf}
 use Rattle.tablereader.specs.States.{statesFrom}
 use Rattle.tablereader.specs.Transitions.{transitionsFrom}
-use Rattle.tablereader.specs.Reader.{endFault, recordCount, startsOf, finalsOf, transitionsOf, recordsWith, outcomeWith, tableWith, readOf}
+use Rattle.tablereader.specs.Reader.{endFault, recordCount, startsOf, finalsOf, transitionsOf, outcomeWith, tableWith, readOf}
 use Rattle.tablereader.specs.declared.header.Header.{Header}
 use Rattle.tablereader.specs.declared.Outcome.the-variants.{Taken, BytesFollow}
 use Rattle.tablereader.proofs.TakenLaws.{end-follows}
@@ -138,7 +138,7 @@ module _ (t : Transducer) (v : Valid t) (s : Shaped t) (text rest : List ℕ) (i
 
   -- the end alone decides
   outcome-end : outcomeWith text (counts t) ≡ outcomeOf (endFault text (all-read .end)) (recordCount (counts t))
-  unfolding outcomeWith recordsWith startsOf finalsOf transitionsOf outcomeOf _▸_
+  unfolding outcomeWith startsOf finalsOf transitionsOf outcomeOf _▸_
   outcome-end = rw (starts-read .read, finals-read .read, all-read .read)
 
   table-same : tableWith text (counts t) ≡ t

@@ -18,7 +18,7 @@ use Rattle.tablereader.specs.Record.{headerRanges, stateRanges, headerSi
 use Rattle.tablereader.specs.Header.{countsOf, headerOf}
 use Rattle.tablereader.specs.States.{stateRecord, readStates, statesFrom}
 use Rattle.tablereader.specs.Transitions.{countAt, transitionRecord, readTransitions, transitionsFrom}
-use Rattle.tablereader.specs.Reader.{startsOf, finalsOf, transitionsOf, recordsWith, outcomeWith, tableWith, readOf}
+use Rattle.tablereader.specs.Reader.{startsOf, finalsOf, transitionsOf, outcomeWith, tableWith, readOf}
 use Rattle.tablereader.specs.declared.Outcome.{Outcome}
 use Rattle.tablereader.specs.declared.Outcome.the-variants.{Taken}
 use Rattle.tablereader.specs.declared.header.Header.{Header}
@@ -84,16 +84,13 @@ module _ (text rest : List ℕ) where
     unfolding tableWith
     table-same = rw (starts-same, finals-same, transitions-same)
 
-    records-same : recordsWith (text ++ rest) h ≡ recordsWith text h
-    unfolding recordsWith
-    records-same = rw (starts-same, finals-same, transitions-same)
-
     outcome-same : transitionsOf text h .next ≤ mostBytes → outcomeWith (text ++ rest) h ≡ outcomeWith text h
     unfolding outcomeWith
     outcome-same low =
         let next = transitionsOf text h .next in
         rw (
-          records-same,
+          starts-same,
+          finals-same,
           transitions-same,
           end-follows (text ++ rest) next (omega (arith, length-append text rest)),
           end-follows text next (omega arith),

@@ -21,7 +21,7 @@ use Rattle.tablereader.specs.Record.{mostRecords}
 use Rattle.tablereader.specs.Header.{headerOf}
 use Rattle.tablereader.specs.States.{readStates, statesFrom}
 use Rattle.tablereader.specs.Transitions.{transitionOf, readTransitions, transitionsFrom}
-use Rattle.tablereader.specs.Reader.{recordCount, startsOf, finalsOf, transitionsOf, recordsWith, outcomeWith, tableWith, readOf}
+use Rattle.tablereader.specs.Reader.{recordCount, startsOf, finalsOf, transitionsOf, outcomeWith, tableWith, readOf}
 use Rattle.tablereader.specs.declared.Outcome.{Outcome}
 use Rattle.tablereader.specs.declared.Outcome.the-variants.{Taken, Ended, WrongByte, NotANumber, OutOfRange, NotRising, BytesFollow}
 use Rattle.tablereader.specs.declared.header.Header.{Header}
@@ -119,7 +119,7 @@ module _ {m : ℕ} where
       transitions-low k text n _ (rec + 1) _ _ _ (omega arith) (then-low o (outcome-low _ rec (omega arith)))
 
 outcome-with-low : (text : List ℕ) (h : Header) → Counted h → Low mostRecords (outcomeWith text h)
-unfolding outcomeWith recordsWith startsOf finalsOf transitionsOf statesFrom transitionsFrom
+unfolding outcomeWith startsOf finalsOf transitionsOf statesFrom transitionsFrom
 outcome-with-low text h c =
     let all : recordCount h ≤ mostRecords = omega (arith, c .few-starts, c .few-finals, c .few-transitions) in
     let some : 1 + h .starts ≤ mostRecords = omega arith in

@@ -7,9 +7,8 @@ use lib.ListN.{length, take}
 use Rattle.transducer.specs.Refusals.{ended, bytesFollow}
 use Rattle.records.specs.Letters.{mostBytes}
 use Rattle.tablereader.specs.Outcome.{numberOf}
-use Rattle.tablereader.specs.Header.{headerOf}
-use Rattle.tablereader.specs.Reader.{recordCount, recordsWith, readOf}
-use Rattle.tablereader.specs.declared.Outcome.the-variants.{Taken, BytesFollow}
+use Rattle.tablereader.specs.Reader.{readOf}
+use Rattle.tablereader.specs.declared.Outcome.the-variants.{Taken}
 
 -- how long a file can be, and what becomes of a longer one
 pub record LongestFile : Type 0 where
@@ -19,8 +18,5 @@ pub record LongestFile : Type 0 where
   pub at-most : (text : List ℕ) → readOf text .outcome ≡ Taken → length text ≤ mostBytes
   -- a longer text is refused with one of 1 to 6
   pub refused : (text : List ℕ) → mostBytes < length text → (ended ≤ numberOf (readOf text .outcome)) × (numberOf (readOf text .outcome) ≤ bytesFollow)
-  -- with 6, at the count of records, where its records pass the checks 1 to 5
-  pub longer : (text : List ℕ) → mostBytes < length text → recordsWith text (headerOf text) ≡ Taken
-      → readOf text .outcome ≡ BytesFollow (recordCount (headerOf text))
   -- the first n bytes of a text, n more than the longest file has, are read to the same as the whole
   pub seen : (text : List ℕ) (n : ℕ) → mostBytes < n → readOf (take n text) ≡ readOf text

@@ -42,13 +42,11 @@ module _ (text : List ℕ) (h : Header) where
   transitionsOf =
       transitionsFrom (h .transitions) text (h .states) (headerSize + stateSize * h .starts + stateSize * h .finals) (1 + h .starts + h .finals)
 
-  -- the outcome of the records, in the order of the file
-  unfoldable pub recordsWith : Outcome
-  recordsWith = outcomeOf (h .fault) 0 ▸ startsOf .outcome ▸ finalsOf .outcome ▸ transitionsOf .outcome
-
-  -- the outcome of the file; after the last record the record's number is the count of records
+  -- the outcome, in the order of the file; after the last record the record's number is the count of records
   unfoldable pub outcomeWith : Outcome
-  outcomeWith = recordsWith ▸ outcomeOf (endFault text (transitionsOf .next)) (recordCount h)
+  outcomeWith =
+      outcomeOf (h .fault) 0 ▸ startsOf .outcome ▸ finalsOf .outcome ▸ transitionsOf .outcome
+      ▸ outcomeOf (endFault text (transitionsOf .next)) (recordCount h)
 
   -- the transducer that the records give
   unfoldable pub tableWith : Transducer

@@ -6,7 +6,7 @@ use native.Mathlib.Omega.{arith}
 use borrow.Author.Tests.{eq-eqb, ne-eqb}
 use denote.Ref.{now}
 use Rattle.tablereader.specs.Header.{headerOf}
-use Rattle.tablereader.specs.Reader.{startsOf, finalsOf, transitionsOf, recordsWith, outcomeWith, tableWith, readOf}
+use Rattle.tablereader.specs.Reader.{startsOf, finalsOf, transitionsOf, outcomeWith, tableWith, readOf}
 use Rattle.tablereader.proofs.HeaderRecord.{Counted, counted}
 use borrow.Author.Needs.{needs}
 use Rattle.tablereader.proofs.read.Statement.{statement}
@@ -65,7 +65,7 @@ text-of c = now (first-call (header-checked c) .before .before .args .text)
 
 -- the outcome is that of the definition
 outcome-read : (c : tie.After-then4) → c .then4 .result ≡ outcomeWith (text-of c) (headerOf (text-of c))
-unfolding outcomeWith recordsWith startsOf finalsOf transitionsOf
+unfolding outcomeWith startsOf finalsOf transitionsOf
 outcome-read c =
     let checked = header-checked c in
     let calls = transitions-read checked in
