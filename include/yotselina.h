@@ -3,7 +3,7 @@
  *
  * NAME
  *   yotselina - a transducer table: its verdict, its translations, a test of an input word and an output word, its useful states; two
- *   tables joined to one
+ *   tables joined to one; a line appended or removed
  *
  * SYNOPSIS
  *   #include "yotselina.h"
@@ -11,8 +11,8 @@
  *
  * WHAT IS LENT
  *   A list is lent as a pointer and then the number of its places (not of its bytes). A table is lent as the bytes of its table file,
- *   whose form docs/MANUAL.md has. Everything that a call answers goes into lists that the caller lends; an answer of several numbers goes
- *   into the list `answer`.
+ *   whose form docs/MANUAL.md has. The number of a line is given by value. Everything that a call answers goes into lists that the caller
+ *   lends; an answer of several numbers goes into the list `answer`.
  *
  * RETURN VALUE
  *   0: done. Otherwise the call is refused: YOTSELINA_NUMBER(r) is the number below, YOTSELINA_RECORD(r) the record of the file in which
@@ -25,7 +25,8 @@
  *     4    a field is outside its range
  *     5    the states of `S` or `F` records do not rise
  *     6    bytes follow the last record
- *     7    a lent list is too short: for the result (yotselina_translate, yotselina_write, yotselina_join), else below its size
+ *     7    a lent list is too short: for the result (yotselina_translate, yotselina_write, yotselina_join, yotselina_append,
+ *          yotselina_remove), else below its size
  *     9    the input word has over 255 codes (yotselina_translate)
  *     10   an input code is 0 or over 250
  *     11   no accepting path reads the input word (yotselina_translate)
@@ -33,7 +34,9 @@
  *     14   an output code is 0 or over 250 (yotselina_accepts)
  *     15   a line of the first table writes more than one code (yotselina_join)
  *     16   the two tables have over 32 joined pairs of states (yotselina_join)
- *     17   the joined table would have over 256 lines (yotselina_join)
+ *     17   the table would have over 256 lines (yotselina_join, yotselina_append)
+ *     18   no line has that number (yotselina_remove)
+ *     19   the line breaks a range, or holds anything but 0 beyond its count of output codes (yotselina_append)
  *     100  the list `answer` is too short
  *
  *   Checked in this order: 100; the file's refusals, from left to right: 1 to 6, and of two files those of the first, then those of the
@@ -83,6 +86,9 @@ extern "C" {
 #define YOTSELINA_LINES 256
 #define YOTSELINA_FILE 13202
 
+/* Places of a line: the state that it leaves, the one that it enters, its input, the count of its output codes, eight for them. */
+#define YOTSELINA_LINE 12
+
 /* The longest input word that is translated, and places that hold any output of one. */
 #define YOTSELINA_WORD 255
 #define YOTSELINA_OUTPUT 65528
@@ -106,6 +112,7 @@ extern "C" {
 #define YOTSELINA_DIFFERENCE_ANSWER 2
 #define YOTSELINA_WRITE_ANSWER 1
 #define YOTSELINA_JOIN_ANSWER 1
+#define YOTSELINA_EDIT_ANSWER 1
 
 /* The kinds of a difference. */
 #define YOTSELINA_LEVEL 0
@@ -288,6 +295,52 @@ uint32_t yotselina_join(const uint8_t *first, size_t first_length,
                         const uint8_t *second, size_t second_length,
                         uint8_t *out, size_t out_length,
                         uint64_t *answer, size_t answer_length);
+
+/*
+ * yotselina_append - the table with one line more, as the last
+ *
+ *   file, file_length   the bytes of the table file
+ *   line                at least YOTSELINA_LINE places, of which the first YOTSELINA_LINE are the line:
+ *                       [0] the state that it leaves, [1] the state that it enters: each below the table's number of states
+ *                       [2] its input: 0 (it reads nothing) or a code, 1 to 250
+ *                       [3] how many output codes it has, 0 to 8
+ *                       [4] to [11] so many output codes, 1 to 250 each, and behind them 0
+ *   out                 where the file of the edited table goes; YOTSELINA_FILE places hold any
+ *   answer              at least YOTSELINA_EDIT_ANSWER places:
+ *                       [0] how many bytes are written to out
+ *
+ * What is written is the file with the line's record behind the last record, and one line more in its count; all else is as it was, byte for
+ * byte. A line that the table has already is taken, and stands in it once more. `out` is another list than `file`: nothing is edited in place.
+ *
+ * Refusals: 100; 1 to 6 with the record; 7 if line has fewer than YOTSELINA_LINE places; 19; 17; 7 if the file does not fit, never with
+ * YOTSELINA_FILE places.
+ * Stack: 32,768 bytes.
+ */
+uint32_t yotselina_append(const uint8_t *file, size_t file_length,
+                          const uint8_t *line, size_t line_length,
+                          uint8_t *out, size_t out_length,
+                          uint64_t *answer, size_t answer_length);
+
+/*
+ * yotselina_remove - the table without one of its lines
+ *
+ *   file, file_length   the bytes of the table file
+ *   number              the line's number, from 0 in the order of the file
+ *   out                 where the file of the edited table goes; YOTSELINA_FILE places hold any
+ *   answer              at least YOTSELINA_EDIT_ANSWER places:
+ *                       [0] how many bytes are written to out
+ *
+ * What is written is the file without the line's record, and one line less in its count; all else is as it was, byte for byte. The lines after
+ * it move down one: line number + 1 becomes line number. `out` is another list than `file`.
+ *
+ * Refusals: 100; 1 to 6 with the record; 18 for any number from the count of lines on; 7 if the file does not fit, never with YOTSELINA_FILE
+ * places.
+ * Stack: 32,768 bytes.
+ */
+uint32_t yotselina_remove(const uint8_t *file, size_t file_length,
+                          size_t number,
+                          uint8_t *out, size_t out_length,
+                          uint64_t *answer, size_t answer_length);
 
 #ifdef __cplusplus
 }

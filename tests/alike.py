@@ -2,6 +2,7 @@
 and pairs that differ in one line, whose verdicts the reference tells apart."""
 
 import generate
+import lines
 import reference
 from boundary import as_note, check
 from compare import as_codes, compare_translation, expected_verdict, faults_of_verdict, randomness
@@ -9,7 +10,7 @@ from library import Library, build
 from owed import table_of
 from programs import Programs
 from settings import share
-from transducer import table_file
+from transducer import places_of, table_file
 from workers import spread
 
 GROUP = "alike"
@@ -70,7 +71,8 @@ def said_by(call, split):
 
 
 def compare_calls(library, findings, kind, index):
-    """Every call that reads a table, on both files: what it owes by the reference, and the same of both; and each file is written with its repeats."""
+    """Every call that reads a table, on both files: what it owes by the reference, and the same of both; and each file is written with its repeats,
+    as it is or edited."""
     random = randomness(GROUP, "library", kind, index)
     one, other, expected = pair_of(findings, random, kind)
     tests = generate.word_tests(random, one) + [generate.broken_words(random, one)]
@@ -84,7 +86,9 @@ def compare_calls(library, findings, kind, index):
         findings.check(f"library, {GROUP}, the same answer", faults, table_file(other), as_note(words))
     for transducer in (one, other):
         content = table_file(transducer)
-        check(findings, f"{GROUP}, written with its repeats", table_of(content), library.call(random, "write", content))
+        edits = [("append", places_of(line)) for line in transducer.transitions[-1:]] + [("remove", lines.any_number(random, transducer))]
+        for name, *given in (("write",), *edits):
+            check(findings, f"{GROUP}, written with its repeats", table_of(content), library.call(random, name, content, *given), as_note(given))
 
 
 # --- pairs that differ in one line -----------------------------------------------------------------------------------

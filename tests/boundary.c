@@ -1,9 +1,10 @@
 /*
  * Calls every function of the library as C does, and prints one line for each call; tests/linked.py runs this under valgrind and compares the lines.
  *
- *     boundary TABLE INPUT OUTPUT SECOND [..]   files: a table file, the codes of an input word and of an output word, and a table file that is
- *                                               joined behind the first; four for each sample
- *     boundary beside                           touches a place beside a list, which valgrind must see
+ *     boundary TABLE INPUT OUTPUT SECOND LINE NUMBER [..]   files: a table file, the codes of an input word and of an output word, a table file that
+ *                                                           is joined behind the first, the places of a line that is appended, the number in digits
+ *                                                           of a line that is removed; six for each sample
+ *     boundary beside                                       touches a place beside a list, which valgrind must see
  *
  * Each list is a piece of memory of its own, of exactly the places that are lent and with no content, so that valgrind sees a place beside it that is
  * touched, a place that is used before it is written, and one that is said to be written and is not. C and C++ compile it.
@@ -42,6 +43,15 @@ static struct text content(const char *path)
         exit(3);
     fclose(file);
     return text;
+}
+
+/* The number that a text of digits has. */
+static size_t number_in(struct text digits)
+{
+    size_t number = 0;
+    for (size_t i = 0; i < digits.length; i++)
+        number = 10 * number + (digits.bytes[i] - '0');
+    return number;
 }
 
 static void print_bytes(const uint8_t *list, uint64_t count)
@@ -143,19 +153,40 @@ static void accepts(struct text table, struct text input, struct text output, si
     free(answer);
 }
 
-/* The table written again, or with a second one joined to it. Returns how many places were written, 0 for a refusal. */
-static size_t write_file(struct text table, const struct text *second, size_t places, size_t answers)
+/* What a sample gives: a table, an input word, an output word, a second table, the places of a line, the number of one. */
+struct sample {
+    struct text table, input, output, second, line;
+    size_t number;
+};
+
+/* What writes a file: the table again, with the second one joined to it, with the line appended, without the line of that number. */
+enum writer { WRITE, JOIN, APPEND, REMOVE };
+static const char *const writers[] = {"write", "join", "append", "remove"};
+
+static uint32_t call_writer(enum writer writer, const struct sample *given, uint8_t *out, size_t places, uint64_t *answer, size_t answers)
+{
+    struct text table = given->table;
+    if (writer == JOIN)
+        return yotselina_join(table.bytes, table.length, given->second.bytes, given->second.length, out, places, answer, answers);
+    if (writer == APPEND)
+        return yotselina_append(table.bytes, table.length, given->line.bytes, given->line.length, out, places, answer, answers);
+    if (writer == REMOVE)
+        return yotselina_remove(table.bytes, table.length, given->number, out, places, answer, answers);
+    return yotselina_write(table.bytes, table.length, out, places, answer, answers);
+}
+
+/* Returns how many places were written, 0 for a refusal. */
+static size_t write_file(enum writer writer, const struct sample *given, size_t places, size_t answers)
 {
     uint8_t *out = (uint8_t *)lend(places, 1);
     uint64_t *answer = (uint64_t *)lend(answers, 8);
-    uint32_t returned = second ? yotselina_join(table.bytes, table.length, second->bytes, second->length, out, places, answer, answers)
-                               : yotselina_write(table.bytes, table.length, out, places, answer, answers);
+    uint32_t returned = call_writer(writer, given, out, places, answer, answers);
     size_t written = returned ? 0 : (size_t)answer[0];
-    printf("%s %zu %zu", second ? "join" : "write", places, answers);
+    printf("%s %zu %zu", writers[writer], places, answers);
     print_returned(returned);
     if (!returned) {
         print_bytes(out, answer[0]);
-        print_answer(answer, second ? YOTSELINA_JOIN_ANSWER : YOTSELINA_WRITE_ANSWER);
+        print_answer(answer, answers);
     }
     printf("\n");
     free(out), free(answer);
@@ -163,14 +194,13 @@ static size_t write_file(struct text table, const struct text *second, size_t pl
 }
 
 /* With enough places, exactly enough, one less, and no answer list. */
-static void write_files(struct text table, const struct text *second)
+static void write_files(enum writer writer, const struct sample *given, size_t answers)
 {
-    size_t answers = second ? YOTSELINA_JOIN_ANSWER : YOTSELINA_WRITE_ANSWER;
-    size_t written = write_file(table, second, YOTSELINA_FILE, answers);
-    write_file(table, second, written, answers);
+    size_t written = write_file(writer, given, YOTSELINA_FILE, answers);
+    write_file(writer, given, written, answers);
     if (written)
-        write_file(table, second, written - 1, answers);
-    write_file(table, second, YOTSELINA_FILE, answers - 1);
+        write_file(writer, given, written - 1, answers);
+    write_file(writer, given, YOTSELINA_FILE, answers - 1);
 }
 
 static void useful_states(struct text table, size_t places)
@@ -212,8 +242,9 @@ static void difference(struct text x, struct text y, size_t answers)
     free(answer);
 }
 
-static void all_calls(struct text table, struct text word, struct text output, struct text second)
+static void all_calls(const struct sample *given)
 {
+    struct text table = given->table, word = given->input;
     size_t written;
     check(table);
     verdicts(table);
@@ -222,10 +253,12 @@ static void all_calls(struct text table, struct text word, struct text output, s
     if (written)
         translate(table, word, written - 1, YOTSELINA_TRANSLATE_ANSWER);
     translate(table, word, YOTSELINA_OUTPUT, YOTSELINA_TRANSLATE_ANSWER - 1);
-    accepts(table, word, output, YOTSELINA_ACCEPTS_ANSWER);
-    accepts(table, word, output, YOTSELINA_ACCEPTS_ANSWER - 1);
-    write_files(table, NULL);
-    write_files(table, &second);
+    accepts(table, word, given->output, YOTSELINA_ACCEPTS_ANSWER);
+    accepts(table, word, given->output, YOTSELINA_ACCEPTS_ANSWER - 1);
+    write_files(WRITE, given, YOTSELINA_WRITE_ANSWER);
+    write_files(JOIN, given, YOTSELINA_JOIN_ANSWER);
+    write_files(APPEND, given, YOTSELINA_EDIT_ANSWER);
+    write_files(REMOVE, given, YOTSELINA_EDIT_ANSWER);
     useful_states(table, YOTSELINA_STATES);
     useful_states(table, YOTSELINA_STATES - 1);
     useful_pairs(table, YOTSELINA_PAIRS, YOTSELINA_PAIRS_ANSWER);
@@ -238,10 +271,10 @@ static void all_calls(struct text table, struct text word, struct text output, s
 /* The numbers of the header; the last is the number returned for an answer list that is too short. */
 static void print_sizes(void)
 {
-    printf("sizes: %d %d %d %d %d %d %d %d %d %d %d %d %d %d %d %d %d %d\n", YOTSELINA_STATES, YOTSELINA_LINES, YOTSELINA_FILE, YOTSELINA_WORD,
-           YOTSELINA_OUTPUT, YOTSELINA_ACCEPTS_INPUT, YOTSELINA_ACCEPTS_OUTPUT, YOTSELINA_WITNESS, YOTSELINA_WITNESS_OUTPUT, YOTSELINA_PAIRS,
-           YOTSELINA_VERDICT_ANSWER, YOTSELINA_TRANSLATE_ANSWER, YOTSELINA_ACCEPTS_ANSWER, YOTSELINA_PAIRS_ANSWER, YOTSELINA_DIFFERENCE_ANSWER,
-           YOTSELINA_WRITE_ANSWER, YOTSELINA_JOIN_ANSWER, YOTSELINA_ANSWER_TOO_SHORT);
+    printf("sizes: %d %d %d %d %d %d %d %d %d %d %d %d %d %d %d %d %d %d %d %d\n", YOTSELINA_STATES, YOTSELINA_LINES, YOTSELINA_FILE, YOTSELINA_LINE,
+           YOTSELINA_WORD, YOTSELINA_OUTPUT, YOTSELINA_ACCEPTS_INPUT, YOTSELINA_ACCEPTS_OUTPUT, YOTSELINA_WITNESS, YOTSELINA_WITNESS_OUTPUT,
+           YOTSELINA_PAIRS, YOTSELINA_VERDICT_ANSWER, YOTSELINA_TRANSLATE_ANSWER, YOTSELINA_ACCEPTS_ANSWER, YOTSELINA_PAIRS_ANSWER,
+           YOTSELINA_DIFFERENCE_ANSWER, YOTSELINA_WRITE_ANSWER, YOTSELINA_JOIN_ANSWER, YOTSELINA_EDIT_ANSWER, YOTSELINA_ANSWER_TOO_SHORT);
 }
 
 /* Reads a place beside a list. */
@@ -258,11 +291,14 @@ int main(int count, char **names)
     if (count == 2)
         return beside();
     print_sizes();
-    for (int i = 1; i + 3 < count; i += 4) {
-        struct text table = content(names[i]), word = content(names[i + 1]), output = content(names[i + 2]), second = content(names[i + 3]);
-        printf("file %d\n", i / 4);
-        all_calls(table, word, output, second);
-        free(table.bytes), free(word.bytes), free(output.bytes), free(second.bytes);
+    for (int i = 1; i + 5 < count; i += 6) {
+        struct text digits = content(names[i + 5]);
+        struct sample given = {content(names[i]), content(names[i + 1]), content(names[i + 2]), content(names[i + 3]), content(names[i + 4]),
+                               number_in(digits)};
+        printf("file %d\n", i / 6);
+        all_calls(&given);
+        free(given.table.bytes), free(given.input.bytes), free(given.output.bytes), free(given.second.bytes), free(given.line.bytes);
+        free(digits.bytes);
     }
     return 0;
 }

@@ -6,13 +6,14 @@ from itertools import permutations
 import cases
 import damage
 import generate
+import lines
 import series
 from compare import DAMAGED_KINDS, as_codes, randomness
 from library import CALLS, OF_FILES, Call, Library, build, full_sizes
 from listing import Refusal, parse_verdict
 from owed import CLASH, COMPARISONS, FIRST_AHEAD, LEVEL, SECOND_AHEAD, faults_of, table_of
 from settings import share
-from transducer import MAX_CODE, MAX_WORD, table_file
+from transducer import LINE_PLACES, MAX_CODE, MAX_WORD, places_of, table_file
 from workers import spread
 
 MIXED = 1_500  # files with random damages, words and sizes
@@ -25,6 +26,11 @@ SOME_TABLES = 4  # one table of a kind in so many is compared through the librar
 def said_yes(call):
     """The answer of a word test."""
     return call.lent["answer"].items(1) == (1,)
+
+
+def written_by(call):
+    """The file that a call has written."""
+    return bytes(call.lent["out"].items(call.lent["answer"].items(1)[0]))
 
 
 def check(findings, group, table, call, note=""):
@@ -40,20 +46,35 @@ def check(findings, group, table, call, note=""):
 # --- tables ----------------------------------------------------------------------------------------------------------
 
 
-def inputs_of(name, content, words, tests):
-    """What a call is lent to read: the file; for translations a word; for word tests an input word and an output word."""
-    more = {"translate": [(word,) for word in words], "accepts": tests}.get(name, [()])
-    return [(content, *given) for given in more]
+def some_inputs(random, transducer):
+    """What calls read beside the file, two of each: for translations a word, for word tests an input word and an output word, for edits a line or the
+    number of one."""
+    return {"translate": [(word,) for word in generate.input_words(random, transducer)],
+            "accepts": generate.word_tests(random, transducer)[:2],
+            "append": [(places_of(lines.good_line(random, transducer)),), (lines.wrong_line(random, transducer)[1],)],
+            "remove": [(lines.any_number(random, transducer),) for _ in range(2)]}
 
 
-def as_note(words):
-    return "\n".join(map(as_codes, words))
+def any_inputs(random, transducer):
+    """The same, one for each call, which may break a limit."""
+    word = random.choice(generate.input_words(random, transducer) + [generate.broken_word(random, transducer)])
+    return {"translate": [(word,)], "accepts": [generate.broken_words(random, transducer)],
+            "append": [(lines.any_line(random, transducer),)], "remove": [(lines.any_number(random, transducer),)]}
+
+
+def inputs_of(name, content, more):
+    """What a call is given to read: the file, and what there is for it beside that."""
+    return [(content, *given) for given in more.get(name, [()])]
+
+
+def as_note(given):
+    return "\n".join(f"number {one}" if isinstance(one, int) else as_codes(one) for one in given)
 
 
 def exact_sizes(call):
     """The sizes below which the call must not go: the lists' sizes, for a written output or file its own length."""
-    written = {"translate": "output", "write": "out", "join": "out"}.get(call.name)
     sizes = full_sizes(call.name)
+    written = next((lent for lent in ("output", "out") if lent in sizes), None)
     return sizes | {written: call.lent["answer"].items(1)[0]} if written and not call.returned else sizes
 
 
@@ -67,9 +88,9 @@ def compare_table(library, findings, kind, index):
     random = randomness("library", kind, index)
     transducer, _ = generate.KINDS[kind][1](random)
     table = table_of(table_file(transducer))
-    words, tests = generate.input_words(random, transducer), generate.word_tests(random, transducer)[:2]
+    given = some_inputs(random, transducer)
     for name in OF_FILES:
-        for inputs in inputs_of(name, table.content, words, tests):
+        for inputs in inputs_of(name, table.content, given):
             note = as_note(inputs[1:])
             more = {lent: places + random.choice((0, 1, 9)) for lent, places in full_sizes(name).items()}
             call = library.call(random, name, *inputs, **more)
@@ -93,8 +114,7 @@ def compare_mixed(library, findings, index):
     content = damage.damaged(random, content)[0] if random.random() < 0.6 else content
     table = table_of(content)
     for name in OF_FILES:
-        word = random.choice(generate.input_words(random, transducer) + [generate.broken_word(random, transducer)])
-        inputs = inputs_of(name, content, [word], [generate.broken_words(random, transducer)])[0]
+        inputs = inputs_of(name, content, any_inputs(random, transducer))[0]
         sizes = {lent: any_size(random, full) for lent, full in full_sizes(name).items()}
         if name == "translate" and random.random() < 0.5:
             sizes["output"] = random.randrange(12)
@@ -107,16 +127,20 @@ NO_FILE = b"x"  # refused 2 at record 0
 LATE = cases.P_FILE + b" "  # refused 6 at record 5
 P_FILE, D_FILE, ONE_STATE_FILE = cases.P_FILE, table_file(cases.D), table_file(cases.ONE_STATE)
 LONG, ZERO, UNREAD = b"\1" * MAX_WORD + b"\0", b"\1\0", b"\1\1"
+# what calls read beside the file: nothing or no more than zeros, and what is refused
+LEAST = {"translate": [(b"",)], "accepts": [(b"", b"")], "difference": [(b"",)], "join": [(b"",)], "append": [(bytes(LINE_PLACES),)],
+         "remove": [(0,)]}
+REFUSED = {"translate": [(LONG,)], "accepts": [(LONG, LONG)], "difference": [(LONG,)], "join": [(LONG,)], "append": [(LONG[::-1],)],
+           "remove": [(lines.MAX_NUMBER,)]}
 NOTHING = {name: {lent: 0 for lent in full_sizes(name)} for name in CALLS}
 ANSWERED = {name: NOTHING[name] | ({"answer": full_sizes(name)["answer"]} if "answer" in NOTHING[name] else {}) for name in CALLS}
 
 # which refusal goes first where several hold: call, what is lent to be read, sizes that are not full, number, record
 ORDERS = (
-    *((name, (LATE, LONG, LONG)[:len(CALLS[name][0])], NOTHING[name], 100, 0) for name in CALLS if "answer" in NOTHING[name]),
-    *((name, (P_FILE, LONG, LONG)[:len(CALLS[name][0])], NOTHING[name], 100, 0) for name in CALLS if "answer" in NOTHING[name]),
-    *((name, (LATE, LONG, LONG)[:len(CALLS[name][0])], ANSWERED[name], 6, 5) for name in OF_FILES),
-    *((name, (NO_FILE, b"", b"")[:len(CALLS[name][0])], ANSWERED[name], 2, 0) for name in OF_FILES),
-    *((name, (b"", b"", b"")[:len(CALLS[name][0])], ANSWERED[name], 1, 0) for name in OF_FILES),
+    *((name, *inputs_of(name, file, REFUSED), NOTHING[name], 100, 0) for file in (LATE, P_FILE) for name in CALLS if "answer" in NOTHING[name]),
+    *((name, *inputs_of(name, LATE, REFUSED), ANSWERED[name], 6, 5) for name in OF_FILES),
+    *((name, *inputs_of(name, NO_FILE, LEAST), ANSWERED[name], 2, 0) for name in OF_FILES),
+    *((name, *inputs_of(name, b"", LEAST), ANSWERED[name], 1, 0) for name in OF_FILES),
     ("translate", (D_FILE, LONG), {"output": 0}, 9, 0),
     ("translate", (D_FILE, ZERO), {"output": 0}, 10, 0),
     ("translate", (D_FILE, b"\1\xfb"), {"output": 0}, 10, 0),
@@ -153,7 +177,7 @@ def compare_files(library, findings):
     for title, content, printed in cases.FILES:
         said = parse_verdict(printed)
         for name in OF_FILES:
-            call = library.call(random, name, *inputs_of(name, content, [b""], [(b"", b"")])[0])
+            call = library.call(random, name, *inputs_of(name, content, LEAST)[0])
             if isinstance(said, Refusal):
                 same_refusal(findings, "named file", call, said.number, said.record, title)
             else:
@@ -192,13 +216,13 @@ def compare_behind(library, findings):
     random = randomness("library", cases.BEHIND)
     for title, content, _ in cases.WHOLE:
         for name in OF_FILES:
-            call = library.call(random, name, *inputs_of(name, content, [b""], [(b"", b"")])[0])
+            call = library.call(random, name, *inputs_of(name, content, LEAST)[0])
             check(findings, cases.BEHIND, table_of(content), call, title)
         for files in ((content, ECHO_FILE), (ECHO_FILE, content)):
             check(findings, cases.BEHIND, table_of(files[0]), library.call(random, "join", *files), title)
     for title, content, records in cases.files_with_bytes_behind():
         for name in OF_FILES:
-            call = library.call(random, name, *inputs_of(name, content, [LONG], [(LONG, LONG)])[0])
+            call = library.call(random, name, *inputs_of(name, content, REFUSED)[0])
             same_refusal(findings, cases.BEHIND, call, 6, records, title)
         for files in ((content, ECHO_FILE), (ECHO_FILE, content), (content, LATE)):
             same_refusal(findings, cases.BEHIND, library.call(random, "join", *files), 6, records, title, second=files[0] == ECHO_FILE)
@@ -271,8 +295,8 @@ def thread_calls():
     for kind, (_, make) in generate.KINDS.items():
         random = randomness("library, threads", kind)
         transducer, _ = make(random)
-        content, words, tests = table_file(transducer), generate.input_words(random, transducer), generate.word_tests(random, transducer)[:2]
-        given = [(name, inputs) for name in OF_FILES for inputs in inputs_of(name, content, words, tests)]
+        content, more = table_file(transducer), some_inputs(random, transducer)
+        given = [(name, inputs) for name in OF_FILES for inputs in inputs_of(name, content, more)]
         given += [("difference", (content, content[:-1])), ("join", tuple(map(table_file, series.two_kinds(random))))]
         calls += [Call(random, name, inputs, full_sizes(name)) for name, inputs in given * ROUNDS]
     return calls

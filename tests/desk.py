@@ -290,7 +290,7 @@ def try_fake(tool, findings):
     """Libraries that answer every check with one number, for those that cannot be had: the tool says what the library says, whatever the file; of a
     number that no refusal has, that it does not know it."""
     source = tool.folder / "fake.c"
-    for number, words in (*((number, WORDS[number]) for number in (7, 8, 100)), (refusals.UNUSED, UNKNOWN)):
+    for number, words in (*((number, WORDS[number]) for number in (7, 8, 18, 19, 100)), (refusals.UNUSED, UNKNOWN)):
         fake = tool.folder / f"fake{number}.so"
         source.write_text(f"unsigned yotselina_check(void) {{ return {2 << 16 | number}; }}\n", encoding="ascii")
         complaint = compile_c("gcc", "-shared", "-fPIC", "-o", fake, source)

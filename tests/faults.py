@@ -1,4 +1,5 @@
-"""Seeded faults: the library with one function made wrong in C, which the comparisons of boundary.py, wordtest.py, join.py and alike.py must find."""
+"""Seeded faults: the library with one function made wrong in C, which the comparisons of boundary.py, wordtest.py, join.py, edits.py and
+alike.py must find."""
 
 import subprocess
 import tempfile
@@ -8,11 +9,12 @@ from pathlib import Path
 import alike
 import boundary
 import cases
+import edits
 import join
 import wordtest
 from examples import run_stack, stack_of_lists
 from findings import Findings
-from library import CALLS, Library, build, link_shared
+from library import BY_VALUE, CALLS, Library, build, link_shared
 from programs import ROOT
 from tools import debian
 from transducer import MAX_FILE
@@ -22,8 +24,8 @@ GROUP = "library, seeded fault is found"
 TYPES = {c_uint8: "uint8_t", c_uint16: "uint16_t", c_uint64: "uint64_t"}
 KINDS = ("random, small", "most lines read nothing", "two copies, a code changed", "branches", "coprime cycles", "deterministic")
 TABLES, MIXED = 2, 10
-# a wrong search, what is asked about repeats, and joins with a rule wrong
-HELPERS = tuple(ROOT / "tests" / name for name in ("forgets.c", "repeats.c", "misjoins.c"))
+# a wrong search, what is asked about repeats, joins and edits with a rule wrong
+HELPERS = tuple(ROOT / "tests" / name for name in ("forgets.c", "repeats.c", "misjoins.c", "misedits.c"))
 
 NO_CODE = "not_all_codes({0}, {0}_length)"
 TAKEN = "answer_length && !yotselina_check(first, first_length) && !yotselina_check(second, second_length)"  # what misjoins.c asks for
@@ -35,11 +37,35 @@ MISJOINS = (
     "a line reads what the second reads", "the second's line first", "no line comes last", "15 for joined states only", "15 after 16 and 17",
     "17 before 16", "33 pairs are taken", "32 pairs are refused", "257 lines are taken", "256 lines are refused", "16 bits count the lines",
 )
+FILE_TAKEN = "answer_length && !yotselina_check(file, file_length)"  # what misedits.c asks for
+# the rules of appending and of removing that misedits.c can have wrong
+LOST = ("the start states are lost", "the final states are lost")
+MISAPPENDS = (
+    "before the last", "as the first", "a line that is there is not appended", "the count is not raised", *LOST, "state n is left",
+    "state n is entered", "input 251 is taken", "a count of 9 is taken for 8", "output 0 is taken", "output 251 is taken",
+    "anything may stand beyond the count", "anything may stand in the last place", "a thirteenth place is looked at", "eleven places are taken",
+    "256 lines are refused", "257 lines are taken", "17 before 19", "7 before 19", "7 before 17",
+)
+MISREMOVES = (
+    "the line after is removed", "the line before is removed", "the last line takes its place", "the last line stays", "the count is not lowered",
+    *LOST, "its repeats are removed", "the number is cut to a byte", "the number is cut to 32 bits", "the count removes the last line",
+    "the last line cannot be removed", "7 before 18",
+)
 
 
 def misjoined(rule):
     """The fault that a join has this rule wrong."""
     return rule, "join", f'if ({TAKEN}) return misjoin("{rule}", first, second, out, out_length, answer);', ""
+
+
+def misappended(rule):
+    """The fault that appending has this rule wrong."""
+    return rule, "append", f'if ({FILE_TAKEN}) return misappend("{rule}", file, file_length, line, line_length, out, out_length, answer);', ""
+
+
+def misremoved(rule):
+    """The fault that removing has this rule wrong."""
+    return rule, "remove", f'if ({FILE_TAKEN}) return misremove("{rule}", file, file_length, number, out, out_length, answer);', ""
 
 
 # what is wrong, the function, what it does before and after the right one is called (r is what that returned)
@@ -123,6 +149,17 @@ FAULTS = (
     ("one place short is taken", "join", "out_length++;", ""),
     ("13,202 places are asked for", "join", "", "if (!r && out_length < 13202) r = 7;"),
     *map(misjoined, MISJOINS),
+    ("a refused append writes", "append", "", "if ((r == 17 || r == 19) && out_length) out[0] ^= 1;"),
+    ("the last byte is not counted", "append", "", "if (!r) answer[0]--;"),
+    ("the line that is lent is changed", "append", "", "if (!r) ((uint8_t *)line)[11] ^= 1;"),
+    ("13,202 places are asked for", "append", "", "if (!r && out_length < 13202) r = 7;"),
+    ("19 before the file's number", "append", "", "if (YOTSELINA_NUMBER(r) < 7 && r && line_length > 11 && line[3] > 8) r = 19;"),
+    ("a refused removal answers 0", "remove", "", "if (r == 18) answer[0] = 0;"),
+    ("a byte behind the edited file", "remove", "", "if (!r && answer[0] < out_length) out[answer[0]] ^= 1;"),
+    ("the record is lost", "remove", "", "if (r && r != 100) r = YOTSELINA_NUMBER(r);"),
+    ("one place short is taken", "remove", "out_length++;", ""),
+    *map(misappended, MISAPPENDS),
+    *map(misremoved, MISREMOVES),
 )
 # functions that answer otherwise where a line stands in the file twice: the comparisons of alike.py must find them
 REPEATS = (
@@ -134,6 +171,8 @@ REPEATS = (
     ("a repeat turns a yes into a no", "accepts", "", "if (!r && repeats(file, file_length)) answer[0] = 0;"),
     ("a repeat is not written", "write", "", "if (!r) answer[0] = without_repeats(out, answer[0]);"),
     ("a repeat is not joined", "join", "", "if (!r) answer[0] = without_repeats(out, answer[0]);"),
+    ("a repeat is not appended", "append", "", "if (!r) answer[0] = without_repeats(out, answer[0]);"),
+    ("a repeat is removed, too", "remove", "", "if (!r) answer[0] = without_repeats(out, answer[0]);"),
 )
 # functions that are wrong about bytes behind the last record: the comparisons of boundary.py that are about them must find them
 TOO_LONG = f"file_length > {MAX_FILE} && YOTSELINA_NUMBER(r) == 6"
@@ -153,6 +192,8 @@ BEHIND = (
     ("the longest file is refused", "useful_pairs", "", LONGEST_REFUSED),
     ("no more than the longest file is looked at", "write", CUT.format("file"), ""),
     ("no more than the longest file is looked at, of the second", "join", CUT.format("second"), ""),
+    ("no more than the longest file is looked at", "append", CUT.format("file"), ""),
+    ("the longest file is refused", "remove", "", LONGEST_REFUSED),
 )
 # a function that keeps something while it runs: seen only where another thread is in it at the same time
 SHARES = ("memory that threads share", "verdict", "static volatile size_t kept; kept = file_length;", "if (!r && kept != file_length) answer[1]++;")
@@ -164,8 +205,8 @@ def source(name, before, after):
     """The wrong function in C, around the right one under another name."""
     read, written = CALLS[name]
     lists = [(f"const {TYPES[c_uint8]}", lent) for lent in read] + [(TYPES[kind], lent) for lent, kind, _ in written]
-    parameters = ", ".join(f"{kind} *{lent}, size_t {lent}_length" for kind, lent in lists)
-    given = ", ".join(f"{lent}, {lent}_length" for _, lent in lists)
+    parameters = ", ".join(f"size_t {lent}" if lent in BY_VALUE else f"{kind} *{lent}, size_t {lent}_length" for kind, lent in lists)
+    given = ", ".join(lent if lent in BY_VALUE else f"{lent}, {lent}_length" for _, lent in lists)
     return f"""#include <stddef.h>
 #include <stdint.h>
 #define YOTSELINA_NUMBER(r) ((r) & 0xffff)
@@ -174,6 +215,9 @@ int forgets(const uint8_t *file, const uint8_t *input, size_t input_length, cons
 int repeats(const uint8_t *file, size_t length);
 size_t without_repeats(uint8_t *file, size_t length);
 uint32_t misjoin(const char *wrong, const uint8_t *first, const uint8_t *second, uint8_t *out, size_t out_length, uint64_t *answer);
+uint32_t misappend(const char *wrong, const uint8_t *file, size_t file_length, const uint8_t *line, size_t line_length, uint8_t *out,
+                   size_t out_length, uint64_t *answer);
+uint32_t misremove(const char *wrong, const uint8_t *file, size_t file_length, size_t number, uint8_t *out, size_t out_length, uint64_t *answer);
 static inline int not_all_codes(const uint8_t *word, size_t length)
 {{ for (size_t i = 0; i < length; i++) if (!word[i] || word[i] > 250) return 1; return 0; }}
 static inline void copy(uint8_t *to, const void *from, size_t length)
@@ -211,8 +255,8 @@ def compare_some(library, name):
         for index in range(MIXED):
             wordtest.compare_table(library, found, "few codes", index)
         return found
-    if name == "join":
-        compare_joins(library, found)
+    if name in ("join", "append", "remove"):
+        (compare_joins if name == "join" else compare_edits)(library, found)
         return found
     for kind in KINDS:
         for index in range(TABLES):
@@ -230,6 +274,18 @@ def compare_joins(library, found):
     for index in range(MIXED):
         join.compare_pair(library, found, "random, small", index)
         join.compare_mixed(library, found, index)
+
+
+def compare_edits(library, found):
+    """A small share of the comparisons of edits."""
+    edits.compare_known(library, found)
+    for compare in (edits.compare_each, edits.compare_ways):
+        for name in ("table P", "255 lines"):
+            compare(library, found, name)
+    for refused in edits.REFUSED:
+        edits.compare_refusals(library, found, *refused)
+    for index in range(TABLES):
+        edits.compare_list(library, found, "random, small", index)
 
 
 def compare_alike(library, found, name):
@@ -266,11 +322,11 @@ def try_fault(_, findings, archive, fault):
     findings.check(GROUP, [] if found.failures else [f"not found: {fault[0]} ({fault[1]})"], b"")
 
 
-def try_misjoins(_, findings, archive):
-    """misjoins.c with no rule wrong: nothing is found."""
+def try_no_rule(_, findings, archive, fault):
+    """misjoins.c or misedits.c with no rule wrong: nothing is found."""
     with tempfile.TemporaryDirectory() as folder:
-        found = compare_some(wrong_library(Path(folder), archive, misjoined("no rule")), "join")
-    findings.check_apart("misjoins.c itself", [f"{group}: {faults}" for group, faults, _, _ in found.failures[:3]], b"")
+        found = compare_some(wrong_library(Path(folder), archive, fault), fault[1])
+    findings.check_apart("joins and edits with no rule wrong", [f"{group}: {faults}" for group, faults, _, _ in found.failures[:3]], b"", fault[1])
 
 
 def try_copies(_, findings, archive):
@@ -282,5 +338,6 @@ def try_copies(_, findings, archive):
 
 def run(findings):
     archive = build()
-    jobs = [(try_fault, archive, fault) for fault in (*FAULTS, *REPEATS, *BEHIND, SHARES)] + [(try_copies, archive), (try_misjoins, archive)]
+    jobs = [(try_fault, archive, fault) for fault in (*FAULTS, *REPEATS, *BEHIND, SHARES)] + [(try_copies, archive)]
+    jobs += [(try_no_rule, archive, made("no rule")) for made in (misjoined, misappended, misremoved)]
     spread(Library, jobs, findings, batch=2)

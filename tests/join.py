@@ -7,7 +7,7 @@ import damage
 import generate
 import reference
 import series
-from boundary import SOME_TABLES, any_size, as_note, check, exact_sizes, one_short, said_yes, same_refusal
+from boundary import SOME_TABLES, any_size, as_note, check, exact_sizes, one_short, said_yes, same_refusal, written_by
 from cases import ONE_STATE, table
 from compare import MAX_DEFINED, randomness, size_name
 from library import Library, build, full_sizes
@@ -33,11 +33,6 @@ def files_of(pair):
 def as_second(content, *more):
     """The second file, for the report of a failure."""
     return "\n".join(("the second file:", content.decode("ascii", "backslashreplace"), *more))
-
-
-def written_by(call):
-    """The file that a join has written."""
-    return bytes(call.lent["out"].items(call.lent["answer"].items(1)[0]))
 
 
 # --- the composition, without pairs of states ------------------------------------------------------------------------

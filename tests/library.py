@@ -16,6 +16,7 @@ PAIRS = MAX_STATES * MAX_STATES
 SHARED = ROOT / "target" / "tests" / "libyotselina.so"
 GUARD = 64  # bytes on either side of what is lent
 
+BY_VALUE = ("number",)  # what a call is given as it is: no memory is lent for it
 # for each call, what is lent to be read, and what is lent to be written: name, type, places that are enough for any answer
 CALLS = {
     "check": (("file",), ()),
@@ -28,6 +29,8 @@ CALLS = {
     "difference": (("x", "y"), (("answer", c_uint64, 2),)),
     "write": (("file",), (("out", c_uint8, MAX_FILE), ("answer", c_uint64, 1))),
     "join": (("first", "second"), (("out", c_uint8, MAX_FILE), ("answer", c_uint64, 1))),
+    "append": (("file", "line"), (("out", c_uint8, MAX_FILE), ("answer", c_uint64, 1))),
+    "remove": (("file", "number"), (("out", c_uint8, MAX_FILE), ("answer", c_uint64, 1))),
 }
 OF_FILES = tuple(name for name, (read, _) in CALLS.items() if read[0] == "file")
 
@@ -125,12 +128,19 @@ class Call:
     def __init__(self, random, name, inputs, sizes):
         read, written = CALLS[name]
         self.name, self.inputs, self.sizes = name, inputs, sizes
-        self.read = {lent: Lent(random, c_uint8, len(content), content) for lent, content in zip(read, inputs)}
+        self.read = {lent: Lent(random, c_uint8, len(content), content) for lent, content in zip(read, inputs) if lent not in BY_VALUE}
         self.lent = {lent: Lent(random, kind, sizes[lent]) for lent, kind, _ in written}
         self.returned = self.begun = self.ended = None
 
+    def arguments(self):
+        """What the function is given, in its order."""
+        for lent, given in zip(CALLS[self.name][0], self.inputs):
+            yield from (ctypes.c_size_t(given),) if lent in BY_VALUE else self.read[lent].argument()
+        for lent in self.lent.values():
+            yield from lent.argument()
+
     def make(self, library):
-        arguments = [part for lent in (*self.read.values(), *self.lent.values()) for part in lent.argument()]
+        arguments = list(self.arguments())
         self.begun = time.perf_counter_ns()
         self.returned = library.functions[self.name](*arguments)
         self.ended = time.perf_counter_ns()

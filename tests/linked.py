@@ -7,7 +7,9 @@ from pathlib import Path
 from typing import NamedTuple
 
 import cases
+import edits
 import generate
+import lines
 import series
 from boundary import check
 from compare import randomness
@@ -17,7 +19,8 @@ from listing import MAX_TRANSLATION, MAX_WITNESS, MAX_WITNESS_OUTPUT
 from owed import ANSWER_TOO_SHORT, table_of
 from programs import ROOT
 from tools import debian
-from transducer import MAX_CODE, MAX_FILE, MAX_STATES, MAX_TESTED_INPUT, MAX_TESTED_OUTPUT, MAX_TRANSITIONS, MAX_WORD, table_file
+from transducer import (LINE_PLACES, MAX_CODE, MAX_FILE, MAX_STATES, MAX_TESTED_INPUT, MAX_TESTED_OUTPUT, MAX_TRANSITIONS, MAX_WORD, places_of,
+                        table_file)
 
 GROUP = "library, linked"
 HEADER = ROOT / "include" / "yotselina.h"
@@ -25,9 +28,9 @@ DRIVER = ROOT / "tests" / "boundary.c"
 STRICT = ("-Wall", "-Wextra", "-Werror", "-pedantic", f"-I{HEADER.parent}")
 COMPILERS = (("gcc", "-std=c99"), ("gcc", "-std=c11"), ("gcc", "-std=c17"), ("g++", "-std=c++11"), ("g++", "-std=c++17"), ("g++", "-std=c++20"))
 TIME_LIMIT = 120
-SIZES = (MAX_STATES, MAX_TRANSITIONS, MAX_FILE, MAX_WORD, MAX_TRANSLATION, MAX_TESTED_INPUT, MAX_TESTED_OUTPUT, MAX_WITNESS, MAX_WITNESS_OUTPUT,
-         MAX_STATES * MAX_STATES,
-         *(full_sizes(name)["answer"] for name in ("verdict", "translate", "accepts", "useful_pairs", "difference", "write", "join")),
+SIZES = (MAX_STATES, MAX_TRANSITIONS, MAX_FILE, LINE_PLACES, MAX_WORD, MAX_TRANSLATION, MAX_TESTED_INPUT, MAX_TESTED_OUTPUT, MAX_WITNESS,
+         MAX_WITNESS_OUTPUT, MAX_STATES * MAX_STATES,
+         *(full_sizes(name)["answer"] for name in ("verdict", "translate", "accepts", "useful_pairs", "difference", "write", "join", "append")),
          ANSWER_TOO_SHORT)
 FOUND = 99  # exit status where valgrind has found something
 VALGRIND = ("-q", f"--error-exitcode={FOUND}", "--leak-check=full", "--errors-for-leak-kinds=all")
@@ -75,16 +78,21 @@ class Items:
 
 
 class Sample(NamedTuple):
-    """What the program is given: a table file, an input word, an output word, a table file to be joined behind the first."""
+    """What the program is given: a table file, an input word, an output word, a table file to be joined behind the first, the places of a line to be
+    appended, the number of a line to be removed."""
 
     table: bytes
     input: bytes = b""
     output: bytes = b""
     second: bytes = b""
+    line: bytes = bytes(LINE_PLACES)
+    number: bytes = b"0"
 
     def lent(self, name):
-        """What a call is lent to read under this name."""
-        return {"input": self.input, "y": self.input, "output": self.output, "second": self.second}.get(name, self.table)
+        """What a call reads under this name."""
+        if name == "number":
+            return int(self.number)
+        return {"input": self.input, "y": self.input, "output": self.output, "second": self.second, "line": self.line}.get(name, self.table)
 
 
 class Printed:
@@ -114,12 +122,12 @@ class Printed:
 
 def longest_file():
     """A file of the most bytes, on which the verdict is soon found: two lines of state 0 read 1 and write different codes."""
-    lines = ((0, 0, 1 + i % MAX_CODE, 1 + i // MAX_CODE, *[MAX_CODE] * 7) for i in range(MAX_TRANSITIONS))
-    return table_file(cases.table(MAX_STATES, range(MAX_STATES), range(MAX_STATES), *lines))
+    most = ((0, 0, 1 + i % MAX_CODE, 1 + i // MAX_CODE, *[MAX_CODE] * 7) for i in range(MAX_TRANSITIONS))
+    return table_file(cases.table(MAX_STATES, range(MAX_STATES), range(MAX_STATES), *most))
 
 
 def samples():
-    """Tables, input words and output words: those of document 01, the largest, damaged ones, and some of each sort at random; and two tables."""
+    """Tables, input words and output words: those of document 01, the largest, damaged ones, and some of each sort at random; two tables; edits."""
     longest, word, output = cases.longest_translation()
     p_file, d_file = cases.P_FILE, table_file(cases.D)
     yield from ((p_file, b"\1\1", b"\5\6"), (d_file, b"\1\2", b"\5\6"), (table_file(cases.D_SPLIT), b"\1\2", b"\5"),
@@ -136,6 +144,12 @@ def samples():
     pairs = [(first, second) for _, first, second, _ in LIMITS]
     pairs += [make(randomness("library, linked", kind)) for kind, (_, make) in series.KINDS.items()]
     yield from ((first, b"", b"", second) for first, second in map(files_of, pairs))
+    for name, transducer in edits.NAMED.items():
+        random, count = randomness("library, linked, edits", name), len(transducer.transitions)
+        good = places_of(lines.good_line(random, transducer))
+        appended = [good, good[:-1], good + b"\xff", *(lines.any_line(random, transducer) for _ in range(3))]
+        removed = (lines.numbers_there(random, count) + lines.numbers_not_there(random, count))[:len(appended)]
+        yield from ((table_file(transducer), b"", b"", b"", line, str(number).encode()) for line, number in zip(appended, removed))
 
 
 def write_samples(folder):

@@ -7,7 +7,7 @@ import reference
 from library import CALLS, PAIRS
 from listing import Refusal, faults_of_witness
 from reference import AMBIGUOUS, Refused
-from transducer import MAX_STATES, table_file
+from transducer import LINE_PLACES, MAX_STATES, table_file
 
 ANSWER_TOO_SHORT = 100
 TOO_SHORT = 7
@@ -141,9 +141,22 @@ def owed_join(table, call):
     return owed_file(call, table_file(table.by_reference(reference.join, second.transducer)))
 
 
+def owed_append(table, call):
+    """The file with the line as its last. Of the line no more is looked at than its places; if it has fewer, nothing is."""
+    line = call.inputs[1]
+    if len(line) < LINE_PLACES:
+        raise Refused(TOO_SHORT)
+    return owed_file(call, table_file(table.by_reference(reference.append, line[:LINE_PLACES])))
+
+
+def owed_remove(table, call):
+    """The file without the line."""
+    return owed_file(call, table_file(table.by_reference(reference.remove, call.inputs[1])))
+
+
 OWED = {"check": owed_check, "verdict": owed_verdict, "translate": owed_translate, "accepts": owed_accepts,
         "useful_states": owed_useful_states, "useful_pairs": owed_useful_pairs, "difference": owed_difference, "write": owed_write,
-        "join": owed_join}
+        "join": owed_join, "append": owed_append, "remove": owed_remove}
 
 
 # --- any call --------------------------------------------------------------------------------------------------------

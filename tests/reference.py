@@ -3,7 +3,7 @@
 It shares no idea with the proved crates where another way is known: functionality is decided by residues (document 000, theorem 3.23 and
 corollary 3.24), one for each useful pair of states; a translation is the word on which all accepting paths agree, over all of them at once; a word
 test is a plain search over (codes read, codes matched, state); a join begins with the set of all steps, of which sorting and the sets of pairs that
-they lead to leave the lines.
+they lead to leave the lines; an edit is one of the list of lines.
 """
 
 import re
@@ -375,3 +375,24 @@ def join(first, second):
     lines = (Transition(number[left], number[entered], 0 if i == NO_LINE else first.transitions[i].input,
                         () if j == NO_LINE else second.transitions[j].output) for left, i, j, entered in kept)
     return Transducer(len(joined), *(tuple(sorted(number[pair] for pair in ends & joined)) for ends in (starts, finals)), tuple(lines))
+
+
+# --- edits -----------------------------------------------------------------------------------------------------------
+
+
+def append(transducer, places):
+    """Document 02, job 6: the table with one line more, as the last; refuses by its numbers. The line is given as its places."""
+    source, target, code, count, *outputs = places
+    if max(source, target) >= transducer.states or code > MAX_CODE or count > MAX_OUTPUTS or any(outputs[count:]):
+        raise Refused(19)
+    only_codes(outputs[:count], 19)
+    if len(transducer.transitions) >= MAX_TRANSITIONS:
+        raise Refused(17)
+    return transducer._replace(transitions=(*transducer.transitions, Transition(source, target, code, tuple(outputs[:count]))))
+
+
+def remove(transducer, number):
+    """The table without the line of this number; the lines after it move down one."""
+    if number >= len(transducer.transitions):
+        raise Refused(18)
+    return transducer._replace(transitions=transducer.transitions[:number] + transducer.transitions[number + 1:])

@@ -2,6 +2,7 @@
  * How much stack each call takes: it runs on a stack of its own that was painted before, and the deepest byte that lost its colour tells.
  * Prints a line for each call: its name and the bytes. The first argument is the table file; its input word is as many ones as a word may have, and
  * the output word that is tested is the beginning of what that table writes. The other two are the table files that are joined.
+ * To the first a line is appended, and its line 0 is removed.
  * Then a line for each of some differences of short and of long lists: the codes of the longer list, the kind that is answered, and the bytes.
  */
 #define _XOPEN_SOURCE 700
@@ -23,7 +24,7 @@ static size_t length, first_length, second_length;
 static uint8_t word[YOTSELINA_WITNESS], flags[YOTSELINA_PAIRS], out[YOTSELINA_FILE];
 static uint16_t path_a[YOTSELINA_WITNESS], path_b[YOTSELINA_WITNESS];
 static uint8_t output_x[YOTSELINA_WITNESS_OUTPUT], output_y[YOTSELINA_WITNESS_OUTPUT], output[YOTSELINA_OUTPUT], input[YOTSELINA_WORD];
-static uint8_t tested[YOTSELINA_ACCEPTS_OUTPUT];
+static uint8_t tested[YOTSELINA_ACCEPTS_OUTPUT], line[YOTSELINA_LINE]; /* a line of zeros is one from state 0 to itself */
 static uint64_t answer[YOTSELINA_VERDICT_ANSWER];
 static uint8_t list_x[LONG], list_y[LONG];
 static size_t length_x, length_y;
@@ -64,6 +65,11 @@ static void join(void)
 {
     returned = yotselina_join(first, first_length, second, second_length, out, sizeof out, answer, YOTSELINA_JOIN_ANSWER);
 }
+static void append(void)
+{
+    returned = yotselina_append(file, length, line, sizeof line, out, sizeof out, answer, YOTSELINA_EDIT_ANSWER);
+}
+static void remove_line(void) { returned = yotselina_remove(file, length, 0, out, sizeof out, answer, YOTSELINA_EDIT_ANSWER); }
 
 /* The bytes of stack that a call takes. */
 static size_t deepest(void (*call)(void))
@@ -145,6 +151,8 @@ int main(int count, char **arguments)
     measure("yotselina_difference", difference);
     measure("yotselina_write", rewrite);
     measure("yotselina_join", join);
+    measure("yotselina_append", append);
+    measure("yotselina_remove", remove_line);
     measure_lists(SHORT);
     measure_lists(LONG);
     return 0;

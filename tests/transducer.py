@@ -5,6 +5,7 @@ from typing import NamedTuple
 MAX_STATES = 32
 MAX_TRANSITIONS = 256
 MAX_OUTPUTS = 8
+LINE_PLACES = 4 + MAX_OUTPUTS  # places of a line that is lent: state left, state entered, input, count of outputs, the outputs
 MAX_CODE = 250
 MAX_WORD = 255
 MAX_TESTED_INPUT = 63  # codes of the input word of a word test
@@ -30,6 +31,11 @@ class Transducer(NamedTuple):
     starts: tuple
     finals: tuple
     transitions: tuple
+
+
+def places_of(line):
+    """A line as it is lent: the places of its outputs beyond their count hold 0."""
+    return bytes((line.source, line.target, line.input, len(line.output), *line.output)).ljust(LINE_PLACES, b"\0")
 
 
 def record(letter, numbers, width=4):

@@ -34,10 +34,10 @@ WORDS = {
              "n is 1 to 32, a state 0 to n - 1, k at most 256, an input 0 to 250, a count of outputs 0 to 8, an output 1 to 250"),
     5: Words(True, "the states of `S` or `F` records do not rise", "sort them, each once"),
     6: Words(True, "bytes follow the last record", "remove them, or correct the counts of `T`"),
-    7: Words(False, "a buffer is too short: for the result (writer, translator, join); else (verdict, useful states and pairs) below its size, "
-             "whatever the outcome would be",
+    7: Words(False, "a buffer is too short: for the result (writer, translator, join, edits); else (verdict, useful states and pairs, a line to "
+             "append) below its size, whatever the outcome would be",
              "lend a longer one: 13,202 bytes hold any file, 65,528 places any output; the verdict takes 2,047 for the word and each path, "
-             "16,376 for each output; useful states take 32 flags, useful pairs 1,024"),
+             "16,376 for each output; useful states take 32 flags, useful pairs 1,024; a line has 12"),
     8: Words(False, "a table value breaks a rule of document 01", "make tables by reading files"),
     9: Words(False, "the input word has over 255 codes",
              "use a shorter word; its parts are other words, which the table may not read or may translate otherwise"),
@@ -51,8 +51,13 @@ WORDS = {
               "split the line: it writes its first code and enters a new state; from there lines that read nothing write the others, one each, and "
               "the last enters the state that the line entered"),
     16: Words(False, "join: over 32 joined pairs of states", "take states and lines that the series does not need out of either table"),
-    17: Words(False, "join: the joined table would have over 256 lines",
-              "take lines out of either table, repeats first: a line of the one makes a line with each line of the other that it steps with"),
+    17: Words(False, "join, appending: the table would have over 256 lines",
+              "take lines out of the table, of a join out of either, repeats first: there a line of the one makes a line with each line of the "
+              "other that it steps with"),
+    18: Words(False, "removing: no line has that number", "lines are counted from 0 in the order of the file, so the last of k has the number k - 1"),
+    19: Words(False, "appending: the line breaks a range, or holds anything but 0 beyond its count of outputs",
+              "a state is 0 to n - 1, the input 0 to 250, the count of outputs 0 to 8, an output 1 to 250; fill up the eight places of the "
+              "outputs with 0"),
     100: Words(False, "the library's list `answer` is too short", "lend as many places as include/yotselina.h names for the call"),
 }
 UNKNOWN = Words(False, "a number that this tool does not know", "see docs/MANUAL.md of the library's own version")

@@ -69,6 +69,10 @@ writeAnswer = 1
 abbrev pub joinAnswer : ℕ
 joinAnswer = 1
 
+-- of an edit of a file: a byte count
+abbrev pub editAnswer : ℕ
+editAnswer = 1
+
 -- ---- what is put into lists
 
 -- a flag: 1 where it is true

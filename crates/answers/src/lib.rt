@@ -25,6 +25,8 @@ pub const DIFFERENCE: usize = 2;
 pub const WRITE: usize = 1;
 // The answer to a join of two files: a byte count.
 pub const JOIN: usize = 1;
+// The answer to an edit of a file: a byte count.
+pub const EDIT: usize = 1;
 
 // What is added to the refusal of the second of two files: bit 31.
 const SECOND: u32 = 2147483648;

@@ -1,4 +1,4 @@
--- Demand 3, from the contracts of reader, functionality test and translator alone: what is read is valid, so with the buffers lent in full nothing is
+-- Demand 3, from the contracts of reader, functionality test and translator alone: what is read is accepted, so with the buffers lent in full nothing is
 -- refused; a single verdict means that the transducer is functional, and a split one shows two readings. Assumes nothing.
 use mathlib.Core.Path.{_≡_, refl, sym, ap, _∙_}
 use mathlib.Core.Bool.{Bool, true, false}
@@ -12,11 +12,13 @@ use Rattle.buffers.specs.Put.{put}
 use Rattle.buffers.proofs.PutLaws.{put-there}
 use Rattle.transducer.specs.Transition.{wordOf}
 use Rattle.transducer.specs.Paths.{reads, Accepting, outputOf, Functional}
+use Rattle.transducer.specs.Accepted.{acceptedOf}
 use Rattle.transducer.specs.Alike.{Alike}
 use Rattle.transducer.specs.declared.Transducer.{Transducer}
+use Rattle.transducer.proofs.AcceptedLaws.{accepted-valid}
 use Rattle.transducer.proofs.FunctionalLaws.{functional-paths, witness-refutes}
 use Rattle.transducer.proofs.AlikeLaws.{alike-functional}
-use Rattle.tablereader.proofs.Validity.{read-valid, read-accepted}
+use Rattle.tablereader.proofs.Validity.{read-accepted}
 use Rattle.wordsearch.specs.Limits.{mostWord}
 use Rattle.translator.proofs.AlikeTranslated as translation
 use Rattle.translator.proofs.TranslationLaws.{gives-the-output}
@@ -27,8 +29,9 @@ use Rattle.functionality.specs.Decided.{refusalOf, verdictOf, UsefulCount, Deci
 use Rattle.functionality.specs.declared.Verdict.{Verdict}
 use Rattle.functionality.proofs.DecidedLaws.{useful-count-unique, alike-useful-count}
 use Rattle.functionality.proofs.VerdictLaws.{refusal-none}
-use Rattle.engine.specs.Engine.{Taken, tableOf, judgementOf, VerdictOn, fileTranslationOf}
-use Rattle.engine.specs.Demand3.{TwoReadings, JudgedInFull, TranslatedInFull, Exact, TheOutput, SameAnswer, Demand3}
+use Rattle.engine.specs.Engine.{judgementOf, VerdictOn, fileTranslationOf, AnswerBy}
+use Rattle.engine.specs.Demand3.{Served, file, value, tableIn, Admitted, VerdictFor, AnswerFor, JudgedInFull, TranslatedInFull}
+use Rattle.engine.specs.Demand3.{TwoReadings, Exact, TheOutput, SameAnswer, Demand3}
 use Rattle.engine.specs.declared.Judgement.{Judgement}
 use Rattle.engine.specs.declared.FileTranslation.{FileTranslation}
 use Rattle.engine.proofs.EngineLaws.{single-verdict}
@@ -85,40 +88,56 @@ module _ {t : Transducer} {b b′ : Buffers} {v : Verdict} (d : Decided t b b′
       split : (judgementOf v .split ≡ true) ↔ TwoReadings t
       split = (λ e. shown-two (split-shows e), λ w. one w (judgementOf v .split) refl)
 
--- ---- a file that is taken
+-- ---- what is served and not refused
 
-module _ {f : List ℕ} {b b′ : Buffers} {r : Judgement} (taken : Taken f) (h : JudgedInFull f b b′ r) where
-  none-refused : refusalOf (tableOf f) b ≡ 0
-  none-refused = refusal-none (tableOf f) b (read-accepted f) (h .full)
+-- its transducer is accepted
+admitted : (s : Served) → Admitted s → acceptedOf (tableIn s) ≡ true
+admitted (file f) taken = read-accepted f
+admitted (value t) e = e
 
-  on-table : VerdictOn (tableOf f) b b′ r
-  on-table = h .judged .taken taken
+-- the verdict is that on its transducer, and the translator answers by that
+on-table : (s : Served) {b b′ : Buffers} {r : Judgement} → Admitted s → VerdictFor s b b′ r → VerdictOn (tableIn s) b b′ r
+on-table (file f) taken h = h .taken taken
+on-table (value t) e h = h
 
-  file-exact : Exact (tableOf f) r
-  file-exact = rw (on-table .answer) (exact (on-table .decided) none-refused)
+by-table : (s : Served) {input out₀ out : List ℕ} {q : FileTranslation} → Admitted s → AnswerFor s input out₀ out q → AnswerBy (tableIn s) input out₀ out q
+by-table (file f) taken h = h .taken taken
+by-table (value t) e h = h
 
-  file-useful : UsefulCount (tableOf f) (r .useful)
-  file-useful = rw (on-table .answer) (on-table .decided .useful none-refused)
+module _ {s : Served} {b b′ : Buffers} {r : Judgement} (ok : Admitted s) (h : JudgedInFull s b b′ r) where
+  none-refused : refusalOf (tableIn s) b ≡ 0
+  none-refused = refusal-none (tableIn s) b (admitted s ok) (h .full)
 
-  file-shows : r .split ≡ true → Showing (tableOf f) (2 * r .useful - 1) b b′ (r .counts)
-  file-shows = rw (on-table .answer) (split-shows (on-table .decided) none-refused)
+  judged : VerdictOn (tableIn s) b b′ r
+  judged = on-table s ok (h .judged)
 
-  file-functional : (r .split ≡ false) ↔ Functional (tableOf f)
-  file-functional = rw (on-table .answer) (single-functional (on-table .decided) none-refused)
+  served-exact : Exact (tableIn s) r
+  served-exact = rw (judged .answer) (exact (judged .decided) none-refused)
+
+  served-useful : UsefulCount (tableIn s) (r .useful)
+  served-useful = rw (judged .answer) (judged .decided .useful none-refused)
+
+  served-shows : r .split ≡ true → Showing (tableIn s) (2 * r .useful - 1) b b′ (r .counts)
+  served-shows = rw (judged .answer) (split-shows (judged .decided) none-refused)
+
+  served-functional : (r .split ≡ false) ↔ Functional (tableIn s)
+  served-functional = rw (judged .answer) (single-functional (judged .decided) none-refused)
 
 -- on a functional transducer the answer is the output that all accepting paths write
-file-output : {f input out₀ out : List ℕ} {q : FileTranslation} {π : List ℕ} → Taken f → Functional (tableOf f) → TranslatedInFull f input out₀ out q
-    → length input ≤ mostWord → Accepting (tableOf f) π → reads (tableOf f) π ≡ wordOf input → TheOutput (tableOf f) input out₀ out q
-file-output {f} {input} {π = π} taken functional h short a e =
-    let answered = h .translated .taken taken in
+served-output : {s : Served} {input out₀ out : List ℕ} {q : FileTranslation} {π : List ℕ} → Admitted s → Functional (tableIn s)
+    → TranslatedInFull s input out₀ out q → length input ≤ mostWord → Accepting (tableIn s) π → reads (tableIn s) π ≡ wordOf input
+    → TheOutput (tableIn s) input out₀ out q
+served-output {s} {input} {π = π} ok functional h short a e =
+    let answered = by-table s ok (h .translated) in
+    let accepted = admitted s ok in
     let given =
-    gives-the-output functional (read-accepted f) short (reads-in-range (read-valid f) (a .path) input e) (h .room)
+    gives-the-output functional accepted short (reads-in-range (accepted-valid (tableIn s) accepted) (a .path) input e) (h .room)
     (record { π = π; accepting = a; read = e; written = refl })
     (answered .translated)
     in
     record {
-      output = outputOf (tableOf f) a;
-      all-write = λ ρ c k. functional-paths (tableOf f) .0 functional ρ π c a (k ∙ sym e);
+      output = outputOf (tableIn s) a;
+      all-write = λ ρ c k. functional-paths (tableIn s) .0 functional ρ π c a (k ∙ sym e);
       answer = answered .answer ∙ ap fileTranslationOf (given .0);
       written = given .1;
     }
@@ -127,14 +146,15 @@ file-output {f} {input} {π = π} taken functional h short a e =
 beginning : (bytes out₀ : List ℕ) {out : List ℕ} {n : ℕ} → n ≡ length bytes → out ≡ put out₀ 0 bytes → take n out ≡ bytes
 beginning bytes out₀ size e = rw (e, size) (put-there out₀ 0 bytes (omega arith))
 
--- two files whose transducers are alike get the same answer where they are functional
-pub file-same : {f g input out₀ out out₀′ out′ : List ℕ} {q q′ : FileTranslation} → Taken f → Taken g → Alike (tableOf f) (tableOf g)
-    → Functional (tableOf f) → TranslatedInFull f input out₀ out q → TranslatedInFull g input out₀′ out′ q′ → SameAnswer out out′ q q′
-file-same {f} {g} {out₀ = out₀} {out} {out₀′} {out′} {q} {q′} taken taken′ alike functional h h′ =
-    let a = h .translated .taken taken in
-    let a′ = h′ .translated .taken taken′ in
+-- two that are alike get the same answer where they are functional
+pub served-same : {s s′ : Served} {input out₀ out out₀′ out′ : List ℕ} {q q′ : FileTranslation} → Admitted s → Admitted s′
+    → Alike (tableIn s) (tableIn s′) → Functional (tableIn s) → TranslatedInFull s input out₀ out q → TranslatedInFull s′ input out₀′ out′ q′
+    → SameAnswer out out′ q q′
+served-same {s} {s′} {out₀ = out₀} {out} {out₀′} {out′} {q} {q′} ok ok′ alike functional h h′ =
+    let a = by-table s ok (h .translated) in
+    let a′ = by-table s′ ok′ (h′ .translated) in
     let same =
-    translation.alike-translates alike (read-accepted f) (read-accepted g) (a .translated) (a′ .translated) functional (h .room) (h′ .room)
+    translation.alike-translates alike (admitted s ok) (admitted s′ ok′) (a .translated) (a′ .translated) functional (h .room) (h′ .room)
     in
     let answer : q ≡ q′ = a .answer ∙ ap fileTranslationOf (same .answer) ∙ sym (a′ .answer) in
     let size : q .length ≡ length (same .bytes) = ap (λ p. p .length) (a .answer) ∙ same .size in
@@ -146,18 +166,18 @@ file-same {f} {g} {out₀ = out₀} {out} {out₀′} {out′} {q} {q′} taken 
 
 -- ---- the theorem
 
-pub demand-3 : (f : List ℕ) → Taken f → Demand3 f
-demand-3 f taken =
+pub demand-3 : (s : Served) → Admitted s → Demand3 s
+demand-3 s ok =
     record {
-      verdict = file-exact taken;
-      useful = file-useful taken;
-      shows = file-shows taken;
-      translates = λ h single k short π a e. file-output taken (file-functional taken h .0 single) k short a e;
-      alike = λ h taken′ alike h′. (
+      verdict = served-exact ok;
+      useful = served-useful ok;
+      shows = served-shows ok;
+      translates = λ h single k short π a e. served-output ok (served-functional ok h .0 single) k short a e;
+      alike = λ h ok′ alike h′. (
         false-together _ _
-            (λ e. file-functional taken′ h′ .1 (alike-functional alike .0 (file-functional taken h .0 e)))
-            (λ e. file-functional taken h .1 (alike-functional alike .1 (file-functional taken′ h′ .0 e))),
-        useful-count-unique (alike-useful-count alike (file-useful taken h)) (file-useful taken′ h′),
+            (λ e. served-functional ok′ h′ .1 (alike-functional alike .0 (served-functional ok h .0 e)))
+            (λ e. served-functional ok h .1 (alike-functional alike .1 (served-functional ok′ h′ .0 e))),
+        useful-count-unique (alike-useful-count alike (served-useful ok h)) (served-useful ok′ h′),
       );
-      alike-translates = λ h single taken′ alike. file-same taken taken′ alike (file-functional taken h .0 single);
+      alike-translates = λ h single ok′ alike. served-same ok ok′ alike (served-functional ok h .0 single);
     }

@@ -22,6 +22,8 @@ use Rattle.tablereader.specs.Outcome as outcome
 use Rattle.tablereader.specs.Reader.{readOf}
 use Rattle.tablereader.specs.declared.Reading.{Reading}
 use Rattle.tablewriter.specs.File.{writeOf}
+use Rattle.tablewriter.specs.Writing.{shortFault}
+use Rattle.tablewriter.proofs.WroteLaws.{short-low}
 use Rattle.tablefile.specs.RoundTrips.{takenAs}
 use Rattle.tablefile.proofs.RoundTrips.{round-trips}
 use Rattle.series.specs.Join as join
@@ -30,13 +32,13 @@ use Rattle.series.specs.declared.Joined.{Joined}
 use Rattle.series.proofs.SeriesLaws.{in-series, joined-shaped, joined-determined}
 use Rattle.series.proofs.AlikeLaws.{alike-joins}
 use Rattle.engine.specs.Engine.{numberOf, recordOf, Taken, tableOf}
-use Rattle.joinfiles.specs.Joining.{shortNumber, joinNumber, joinRecord, whereDone, FilesJoined}
+use Rattle.joinfiles.specs.Joining.{joinNumber, joinRecord, whereDone, FilesJoined}
 use Rattle.joinfiles.specs.Series.{FileInSeries}
 use Rattle.joinfiles.specs.declared.FileJoin.{FileJoin}
 use Rattle.tablereader.specs.Record.{mostRecords}
 use Rattle.tablereader.proofs.ReadLaws.{read-shaped, read-record}
 use Rattle.joinfiles.proofs.Returns.{no-record, not-second}
-use Rattle.joinfiles.proofs.Numbers.{reader-small, join-small, short-small}
+use Rattle.joinfiles.proofs.Numbers.{reader-small, join-small}
 
 -- ---- every answer
 
@@ -58,7 +60,7 @@ module _ {f g out out′ : List ℕ} {r : FileJoin} (h : FilesJoined f g out out
       (first-below _ (reader-small (readOf f .outcome))
       (first-below _ (reader-small (readOf g .outcome))
       (first-below _ (join-small (h .joined .outcome))
-      (first-below _ (short-small (h .joined) out) (rw (← no-more) (omega arith))))))
+      (first-below _ (omega (arith, short-low (h .joined .table) out)) (rw (← no-more) (omega arith))))))
 
   -- a refusal leaves the buffer
   pub refused-leaves : r .number ≢ 0 → out′ ≡ out
@@ -137,7 +139,7 @@ module _ {f g out out₁ out₂ : List ℕ} {r₁ r₂ : FileJoin} (h : FilesJoi
       h .number
       ∙ others-same (numberOf f) _ _
       (λ t. others-same (numberOf g) _ _
-      (λ t′. ap (λ (j : Joined). firstOf (join.numberOf (j .outcome) ∷ shortNumber j out ∷ [])) (same-joined t t′)))
+      (λ t′. ap (λ (j : Joined). firstOf (join.numberOf (j .outcome) ∷ shortFault (j .table) out ∷ [])) (same-joined t t′)))
       ∙ sym (k .number)
 
   -- what is done with the joined tables

@@ -1,33 +1,29 @@
 -- How `join_files` meets its contract: a law for each of its returns. Assumes nothing.
-use mathlib.Core.Path.{_≡_, refl, sym, ap, _∙_}
-use mathlib.Core.Bool.{Bool, true, false, cond}
+use mathlib.Core.Path.{_≡_, refl, sym}
+use mathlib.Core.Bool.{Bool, true, false}
 use mathlib.Core.List.{List, [], _∷_}
 use mathlib.Core.Logic.{_≢_}
 use Prim.Native.Nat.{ℕ}
 use borrow.Author.Tests.{eq-eqb, ne-eqb}
-use lib.Dec.{eqb, leb}
 use lib.ListN.{length}
-use Rattle.buffers.specs.Put.{put}
-use Rattle.transducer.specs.Refusals.{tooShort, invalid, firstOf}
+use Rattle.transducer.specs.Refusals.{firstOf}
 use Rattle.transducer.specs.Blank.{blankTransducer}
-use Rattle.transducer.specs.declared.Transducer.{Transducer}
 use Rattle.transducer.proofs.RefusalLaws.{this-one, none-then, only-one}
 use Rattle.transducer.proofs.AcceptedLaws.{valid-accepted}
-use Rattle.tablereader.specs.Outcome as outcome
 use Rattle.tablereader.specs.Reader.{readOf}
 use Rattle.tablereader.specs.declared.Reading.{Reading}
-use Rattle.tablereader.proofs.Outcomes.{taken-number}
-use Rattle.tablewriter.specs.File.{writeOf}
+use Rattle.tablereader.proofs.Outcomes.{taken-record}
 use Rattle.tablewriter.specs.Writing as wrote
-use Rattle.tablewriter.specs.Writing.{inCase, Wrote}
+use Rattle.tablewriter.specs.Writing.{shortFault, Wrote}
 use Rattle.tablewriter.specs.declared.Writing.{Writing}
+use Rattle.tablewriter.proofs.WroteLaws.{wrote-accepted}
 use Rattle.series.specs.Join as join
 use Rattle.series.specs.Join.{JoinedOf}
 use Rattle.series.specs.declared.Outcome.the-variants.{Made}
 use Rattle.series.specs.declared.Joined.{Joined}
 use Rattle.series.proofs.SeriesLaws.{in-series}
 use Rattle.engine.specs.Engine.{numberOf, recordOf, Taken, tableOf}
-use Rattle.joinfiles.specs.Joining.{shortNumber, joinNumber, joinRecord, ofSecond, FilesJoined}
+use Rattle.joinfiles.specs.Joining.{joinNumber, joinRecord, ofSecond, FilesJoined}
 use Rattle.joinfiles.specs.declared.FileJoin.{FileJoin}
 
 -- the answer that refuses
@@ -82,27 +78,16 @@ joined-read f g e e′ h = rw (e, e′) at h
 module _ (f g : List ℕ) (t : Taken f) (t′ : Taken g) where
   pub no-record : 0 ≡ joinRecord f g
   unfolding joinRecord
-  no-record = rw (eq-eqb (numberOf f) 0 t) (sym (ap outcome.recordOf (taken-number (readOf g .outcome) t′)))
+  no-record = rw (eq-eqb (numberOf f) 0 t) (sym (taken-record (readOf g .outcome) t′))
 
   pub not-second : false ≡ ofSecond f g
   unfolding ofSecond
   not-second = rw (eq-eqb (numberOf f) 0 t, eq-eqb (numberOf g) 0 t′)
 
-  past-files : (joined : Joined) (out : List ℕ) {r : ℕ} → r ≡ firstOf (join.numberOf (joined .outcome) ∷ shortNumber joined out ∷ [])
+  past-files : (joined : Joined) (out : List ℕ) {r : ℕ} → r ≡ firstOf (join.numberOf (joined .outcome) ∷ shortFault (joined .table) out ∷ [])
       → r ≡ joinNumber f g joined out
   unfolding joinNumber
   past-files joined out e = none-then _ t (none-then _ t′ e)
-
--- the joined table keeps the rules, so that only a short buffer is refused
-written-case : {first second : Transducer} {joined : Joined} → JoinedOf first second joined → (out : List ℕ) {A : Type 0} (broken short done : A)
-    → inCase (joined .table) out broken short done ≡ cond (leb (length (writeOf (joined .table))) (length out)) done short
-unfolding inCase
-written-case {joined = joined} h out broken short done = rw (valid-accepted (joined .table) (in-series h .valid))
-
--- whether it is shows in the number
-by-number : {A : Type 0} (x : Bool) (done short : A) → cond x done short ≡ cond (eqb (cond x 0 tooShort) 0) done short
-by-number true done short = refl
-by-number false done short = refl
 
 module _ (f g : List ℕ) {out : List ℕ} {joined : Joined} (t : Taken f) (t′ : Taken g) (h : JoinedOf (tableOf f) (tableOf g) joined) where
   -- the join is refused
@@ -115,18 +100,15 @@ module _ (f g : List ℕ) {out : List ℕ} {joined : Joined} (t : Taken f) (t′
   -- its file is written, or the buffer is short
   pub join-written : {r : FileJoin} {out′ : List ℕ} {w : Writing} → join.numberOf (joined .outcome) ≡ 0 → Wrote (joined .table) out out′ w
       → r ≡ answeredBy w → FilesJoined f g out out′ r
-  unfolding shortNumber
   join-written {w = w} z writes e =
-      let file = writeOf (joined .table) in
-      let room = leb (length file) (length out) in
-      let number : wrote.numberOf w ≡ cond room 0 tooShort = writes .number ∙ written-case h out invalid tooShort 0 in
+      let wrote = wrote-accepted (valid-accepted (joined .table) (in-series h .valid)) writes in
       rw e
       (record {
         joined = joined;
         joins = λ _ _. h;
-        number = past-files f g t t′ joined out (none-then _ z (only-one number));
+        number = past-files f g t t′ joined out (none-then _ z (only-one (wrote .number)));
         at-record = no-record f g t t′;
         second = not-second f g t t′;
-        count = writes .count ∙ written-case h out 0 0 (length file) ∙ rw number (by-number room (length file) 0);
-        buffer = writes .buffer ∙ written-case h out out out (put out 0 file) ∙ rw number (by-number room (put out 0 file) out);
+        count = wrote .count;
+        buffer = wrote .buffer;
       })

@@ -4,24 +4,21 @@ use mathlib.Core.Path.{_≡_}
 use mathlib.Core.Bool.{Bool, cond, _&&_, not}
 use mathlib.Core.List.{List, [], _∷_}
 use Prim.Native.Nat.{ℕ}
-use lib.Dec.{eqb, leb}
+use lib.Dec.{eqb}
 use lib.ListN.{length}
 use Rattle.buffers.specs.Put.{put}
-use Rattle.transducer.specs.Refusals.{tooShort, firstOf}
+use Rattle.transducer.specs.Refusals.{firstOf}
 use Rattle.tablewriter.specs.File.{writeOf}
+use Rattle.tablewriter.specs.Writing.{shortFault}
 use Rattle.series.specs.Join as join
 use Rattle.series.specs.Join.{JoinedOf}
 use Rattle.series.specs.declared.Joined.{Joined}
 use Rattle.engine.specs.Engine.{numberOf, recordOf, Taken, tableOf}
 use Rattle.joinfiles.specs.declared.FileJoin.{FileJoin}
 
--- the refusal of a buffer that is shorter than the file of the joined table, 0 where it is not
-unfoldable pub shortNumber : Joined → List ℕ → ℕ
-shortNumber joined out = cond (leb (length (writeOf (joined .table))) (length out)) 0 tooShort
-
 -- refused are, in this order, the first file, the second file, the join of their tables, a short buffer
 unfoldable pub joinNumber : List ℕ → List ℕ → Joined → List ℕ → ℕ
-joinNumber f g joined out = firstOf (numberOf f ∷ numberOf g ∷ join.numberOf (joined .outcome) ∷ shortNumber joined out ∷ [])
+joinNumber f g joined out = firstOf (numberOf f ∷ numberOf g ∷ join.numberOf (joined .outcome) ∷ shortFault (joined .table) out ∷ [])
 
 -- the record at which the first file is refused, else that at which the second is, 0 where both are taken
 unfoldable pub joinRecord : List ℕ → List ℕ → ℕ

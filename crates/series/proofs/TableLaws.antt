@@ -5,8 +5,7 @@ use mathlib.Core.List.{List, [], _++_, List·Memᴰ, List·Memᴰ·not-nil, List
 use mathlib.Core.Logic.{⊎-elim}
 use Prim.Native.Nat.{ℕ, _+_, _-_, _/_, _%_, _≤_, _<_}
 use native.Mathlib.Omega.{arith}
-use lib.ListN.{length, getD, replicate, length-append, length-replicate, getD-replicate, List·getD-append}
-use lib.Seq.{getD-append-add, ext-getD}
+use lib.ListN.{length, getD, replicate, length-replicate, getD-replicate}
 use Rattle.transducer.specs.Limits.{mostStates, mostTransitions}
 use Rattle.transducer.specs.Transition.{outside}
 use Rattle.transducer.specs.Blank.{clearTransition}
@@ -14,7 +13,8 @@ use Rattle.transducer.specs.Lines.{transducerOf}
 use Rattle.transducer.specs.declared.StateSet.{StateSet}
 use Rattle.transducer.specs.declared.Transition.{Transition}
 use Rattle.transducer.specs.declared.Transducer.{Transducer}
-use Rattle.transducer.proofs.Bools.{le-or-lt, and-left}
+use Rattle.transducer.proofs.Bools.{and-left}
+use Rattle.transducer.proofs.LineLaws as line
 use Rattle.transducer.proofs.LineLaws.{place-among}
 use Rattle.product.specs.Numbers.{mostPairs, noTransition, sides, labelOf}
 use Rattle.product.specs.Steps.{pastLast, targetOf}
@@ -97,27 +97,12 @@ module _ {first second : Transducer} {left right : List ℕ} (c : Coupled first 
         → Written first second left right states list k array
         → array ≡ lines first second joined ++ replicate (mostTransitions - length (lines first second joined)) clearTransition
     unfolding lineBy
-    array-is {states} {array = array} h w = ext-getD outside array (own ++ rest) (w .long ∙ sym long) at-place
+    array-is {states} {array = array} h w =
+        line.array-is (lines first second joined) array (omega (arith, count-is)) (w .long) at-place (λ j b. w .clear j (omega (arith, count-is)))
       where
-        own : List Transition
-        own = lines first second joined
-
-        rest : List Transition
-        rest = replicate (mostTransitions - length own) clearTransition
-
-        long : length (own ++ rest) ≡ mostTransitions
-        long = omega (arith, length-append own rest, length-replicate (mostTransitions - length own) clearTransition, count-is)
-
-        at-place : (j : ℕ) → j < length array → getD array j outside ≡ getD (own ++ rest) j outside
+        at-place : (j : ℕ) → j < length (lines first second joined) → getD array j outside ≡ getD (lines first second joined) j outside
         at-place j b =
-            ⊎-elim
-            (λ (b′ : k ≤ j).
-            let beyond : length own + (j - length own) ≡ j = omega (arith, count-is) in
-            w .clear j b′ (omega (arith, w .long))
-            ∙ sym
-            (ap (λ i. getD (own ++ rest) i outside) (sym beyond) ∙ getD-append-add own rest (j - length own) outside
-            ∙ getD-replicate (mostTransitions - length own) (j - length own) clearTransition outside (omega (arith, count-is, w .long))))
-            (λ (b′ : j < k).
+            let b′ : j < k = omega (arith, count-is) in
             let p = placed-at j b′ in
             let low = target-low (c .image .machine) (c .image′ .machine) (p .pair) (p .step) in
             w .line j b′
@@ -125,8 +110,6 @@ module _ {first second : Transducer} {left right : List ℕ} (c : Coupled first 
             ∙ ap (lineBy first second left right (stateOf joined)) (l .kept j b′ (omega arith))
             ∙ sym (getD-mapped (lineBy first second left right (stateOf joined)) (stepsOf left right joined) outside j (omega (arith, l .exact most)))
             ∙ ap (λ x. getD x j outside) (steps-lines c joined)
-            ∙ sym (List·getD-append own rest outside j (omega (arith, count-is))))
-            (le-or-lt k j)
 
 -- ---- the whole
 

@@ -10,7 +10,7 @@ use lib.ListN.{getD}
 use Rattle.transducer.specs.Limits.{mostStates, mostTransitions, mostOutputs, mostCode}
 use Rattle.transducer.specs.StateSet.{has, In}
 use Rattle.transducer.specs.Transition.{at}
-use Rattle.transducer.specs.Valid.{codeAt, Used, Clear, Valid, allBelow, codeOf, codesOf, usedOf, clearOf, placeOf, setOf, validOf}
+use Rattle.transducer.specs.Valid.{codeAt, Used, Clear, Valid, allBelow, codeOf, codesOf, usedOf, lineOf, clearOf, placeOf, setOf, validOf}
 use Rattle.transducer.specs.declared.Transition.{Transition}
 use Rattle.transducer.specs.declared.StateSet.{StateSet}
 use Rattle.transducer.specs.declared.Transducer.{Transducer}
@@ -90,6 +90,14 @@ module _ (n : ℕ) (v : Transition) where
         (le-leb (v .count) mostOutputs (u .few-outputs)),
     facts-codes v (λ j l h. (u .least-code j h, u .largest-code j h)) (λ j l h. u .beyond-zero j h l),
   )
+
+-- the test of a line holds exactly of one in use
+pub line-exactly : (n : ℕ) (v : Transition) → (lineOf n v ≡ true) ↔ Used n v
+unfolding lineOf
+line-exactly n v = (
+  λ e. used-facts n v (and-left (usedOf n v) (codesOf v) e) (and-right (usedOf n v) (codesOf v) e),
+  λ u. let b = facts-used n v u in and-both (b .0) (b .1),
+)
 
 module _ (v : Transition) where
   clear-facts : clearOf v ≡ true → codesOf v ≡ true → Clear v

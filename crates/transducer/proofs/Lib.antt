@@ -13,6 +13,7 @@ pub mod MoveLaws
 pub mod LineLaws
 pub mod BlankLaws
 pub mod WithinLaws
+pub mod RemovalLaws
 pub mod AlikeLaws
 pub mod SizeLaws
 pub mod ReversalLaws

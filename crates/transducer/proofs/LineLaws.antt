@@ -1,7 +1,6 @@
 -- A transducer and the list of its lines: each makes the other, and the lines tell what the transitions are and whether the rules are kept.
 -- Assumes nothing.
 use mathlib.Core.Path.{_≡_, refl, sym, ap, subst, _∙_}
-use mathlib.Core.Bool.{true}
 use mathlib.Core.List.{List, [], _∷_, _++_, List·Memᴰ, List·Memᴰ·head, List·Memᴰ·tail, List·Memᴰ·eq-of-singleton, List·Memᴰ·append-cases}
 use mathlib.Core.Logic.{_↔_, ⊎-elim}
 use Prim.Native.Nat.{ℕ, zero, suc, _+_, _-_, _≤_, _<_}
@@ -12,14 +11,13 @@ use lib.Seq.{getD-at, getD-append-add, ext-getD}
 use Rattle.transducer.specs.Limits.{mostStates, mostTransitions, mostOutputs}
 use Rattle.transducer.specs.Transition.{at, outside, firsts, outputAt, writtenBy}
 use Rattle.transducer.specs.Blank.{clearTransition}
-use Rattle.transducer.specs.Valid.{Used, Clear, Valid, Shaped, usedOf, codesOf}
-use Rattle.transducer.specs.Lines.{linesOf, transducerOf, appended, Among, lineOf, Keeps}
+use Rattle.transducer.specs.Valid.{Used, Clear, Valid, Shaped}
+use Rattle.transducer.specs.Lines.{linesOf, transducerOf, appended, Among, Keeps}
 use Rattle.transducer.specs.declared.OutputCode.{OutputCode}
 use Rattle.transducer.specs.declared.StateSet.{StateSet}
 use Rattle.transducer.specs.declared.Transition.{Transition}
 use Rattle.transducer.specs.declared.Transducer.{Transducer}
-use Rattle.transducer.proofs.Bools.{le-or-lt, and-left, and-right, and-both}
-use Rattle.transducer.proofs.Facts.{used-facts, facts-used}
+use Rattle.transducer.proofs.Bools.{le-or-lt}
 use Rattle.transducer.proofs.SizeLaws.{length-firsts, length-written}
 
 -- ---- the lines of a list
@@ -50,14 +48,6 @@ among-place : {v : Transition} {lines : List Transition} → Among v lines → P
 among-place (List·Memᴰ·head e) = record { number = 0; below = omega arith; same = sym e }
 among-place (List·Memᴰ·tail m) = let p = among-place m in record { number = suc (p .number); below = omega (arith, p .below); same = p .same }
 
--- the test of a line holds exactly of one in use
-pub line-exactly : (n : ℕ) (v : Transition) → (lineOf n v ≡ true) ↔ Used n v
-unfolding lineOf
-line-exactly n v = (
-  λ e. used-facts n v (and-left (usedOf n v) (codesOf v) e) (and-right (usedOf n v) (codesOf v) e),
-  λ u. let b = facts-used n v u in and-both (b .0) (b .1),
-)
-
 -- ---- from a transducer to its lines
 
 module _ (t : Transducer) where
@@ -87,6 +77,15 @@ among-numbered t m =
 
 -- ---- from lines to a transducer
 
+-- behind the lines an array has clear transitions
+behind-clear : (lines : List Transition) (l : ℕ) → length lines ≤ l → l < mostTransitions
+    → getD (lines ++ replicate (mostTransitions - length lines) clearTransition) l outside ≡ clearTransition
+behind-clear lines l h k =
+    let beyond : length lines + (l - length lines) ≡ l = omega arith in
+    let rest = replicate (mostTransitions - length lines) clearTransition in
+    ap (λ i. getD (lines ++ rest) i outside) (sym beyond) ∙ getD-append-add lines rest (l - length lines) outside
+    ∙ getD-replicate (mostTransitions - length lines) (l - length lines) clearTransition outside (omega arith)
+
 module _ (n : ℕ) (starts finals : StateSet) (lines : List Transition) where
   -- transition l is line l
   pub made-at : (l : ℕ) → l < length lines → at (transducerOf n starts finals lines) l ≡ getD lines l outside
@@ -96,11 +95,7 @@ module _ (n : ℕ) (starts finals : StateSet) (lines : List Transition) where
   -- the places beyond are clear
   pub made-clear : (l : ℕ) → length lines ≤ l → l < mostTransitions → at (transducerOf n starts finals lines) l ≡ clearTransition
   unfolding transducerOf
-  made-clear l h k =
-      let beyond : length lines + (l - length lines) ≡ l = omega arith in
-      ap (λ i. at (transducerOf n starts finals lines) i) (sym beyond)
-      ∙ getD-append-add lines (replicate (mostTransitions - length lines) clearTransition) (l - length lines) outside
-      ∙ getD-replicate (mostTransitions - length lines) (l - length lines) clearTransition outside (omega arith)
+  made-clear l h k = behind-clear lines l h k
 
   -- its lines are the ones of which it is made
   pub made-lines : linesOf (transducerOf n starts finals lines) ≡ lines
@@ -124,31 +119,44 @@ clear-same v c size =
     code : (a : OutputCode) → a .0 ≡ 0 → a ≡ record { 0 = 0 }
     code a e = λ i. record { 0 = e i }
 
--- a transducer that keeps the rules is made of its own parts
-module _ (t : Transducer) (v : Valid t) (s : Shaped t) where
-  abbrev again : Transducer
-  again = transducerOf (t .states) (t .starts) (t .finals) (linesOf t)
+-- an array that has these lines, and clear transitions behind them
+pub array-is : (lines array : List Transition) → length lines ≤ mostTransitions → length array ≡ mostTransitions
+    → ((l : ℕ) → l < length lines → getD array l outside ≡ getD lines l outside)
+    → ((l : ℕ) → length lines ≤ l → l < mostTransitions → getD array l outside ≡ clearTransition)
+    → array ≡ lines ++ replicate (mostTransitions - length lines) clearTransition
+array-is lines array few size line clear = ext-getD outside array (lines ++ rest) (size ∙ sym long) place
+  where
+    rest : List Transition
+    rest = replicate (mostTransitions - length lines) clearTransition
 
-  place-again : (l : ℕ) → l < mostTransitions → at again l ≡ at t l
-  place-again l k =
-      ⊎-elim
-      (λ (h : t .count ≤ l).
-      made-clear _ _ _ (linesOf t) l (omega (arith, lines-long t)) k ∙ sym (clear-same (at t l) (v .beyond-clear l h k) (s .outputs l k)))
-      (λ (h : l < t .count). made-at _ _ _ (linesOf t) l (omega (arith, lines-long t)) ∙ line-at t l h)
-      (le-or-lt (t .count) l)
+    long : length (lines ++ rest) ≡ mostTransitions
+    long = omega (arith, length-append lines rest, length-replicate (mostTransitions - length lines) clearTransition)
 
-  pub made-again : transducerOf (t .states) (t .starts) (t .finals) (linesOf t) ≡ t
-  unfolding transducerOf
-  made-again =
-      let rest = replicate (mostTransitions - length (linesOf t)) clearTransition in
-      let few = v .few-transitions in
-      let long : length (linesOf t ++ rest) ≡ mostTransitions =
-      omega (arith, length-append (linesOf t) rest, length-replicate (mostTransitions - length (linesOf t)) clearTransition, lines-long t)
-      in
-      let transitions : linesOf t ++ rest ≡ t .transitions =
-      ext-getD outside (linesOf t ++ rest) (t .transitions) (long ∙ sym (s .transitions)) (λ l h. place-again l (omega (arith, long)))
-      in
-      λ i. record { states = t .states; starts = t .starts; finals = t .finals; count = lines-long t i; transitions = transitions i }
+    place : (l : ℕ) → l < length array → getD array l outside ≡ getD (lines ++ rest) l outside
+    place l h =
+        ⊎-elim
+        (λ (k : length lines ≤ l). clear l k (omega (arith, size)) ∙ sym (behind-clear lines l k (omega (arith, size))))
+        (λ (k : l < length lines). line l k ∙ sym (List·getD-append lines rest outside l k))
+        (le-or-lt (length lines) l)
+
+-- a transducer with these lines and clear transitions behind them is made of them
+pub made-of : (t : Transducer) (lines : List Transition) → length lines ≤ mostTransitions → t .count ≡ length lines
+    → length (t .transitions) ≡ mostTransitions → ((l : ℕ) → l < length lines → at t l ≡ getD lines l outside)
+    → ((l : ℕ) → length lines ≤ l → l < mostTransitions → at t l ≡ clearTransition)
+    → t ≡ transducerOf (t .states) (t .starts) (t .finals) lines
+unfolding transducerOf
+made-of t lines few count size line clear =
+    let array = array-is lines (t .transitions) few size line clear in
+    λ i. record { states = t .states; starts = t .starts; finals = t .finals; count = count i; transitions = array i }
+
+-- one that keeps the rules is made of its own parts
+pub made-again : (t : Transducer) → Valid t → Shaped t → transducerOf (t .states) (t .starts) (t .finals) (linesOf t) ≡ t
+made-again t v s =
+    let long = lines-long t in
+    sym
+    (made-of t (linesOf t) (omega (arith, long, v .few-transitions)) (sym long) (s .transitions)
+    (λ l h. sym (line-at t l (omega (arith, long))))
+    (λ l h k. clear-same (at t l) (v .beyond-clear l (omega (arith, long)) k) (s .outputs l k)))
 
 -- ---- the rules
 

@@ -1,13 +1,12 @@
 -- A transducer as its number of states, its two sets of states and the list of its transitions (document 01: lines).
-use mathlib.Core.Bool.{Bool, _&&_}
 use mathlib.Core.List.{List, [], _∷_, _++_, List·Memᴰ}
-use Prim.Native.Nat.{ℕ, _-_, _≤_, _<_}
-use lib.ListN.{length, replicate}
+use Prim.Native.Nat.{ℕ, suc, _-_, _≤_, _<_}
+use lib.ListN.{length, take, drop, replicate}
 use Rattle.transducer.specs.Limits.{mostStates, mostTransitions}
 use Rattle.transducer.specs.StateSet.{In}
 use Rattle.transducer.specs.Transition.{at, firsts}
 use Rattle.transducer.specs.Blank.{clearTransition}
-use Rattle.transducer.specs.Valid.{Used, usedOf, codesOf}
+use Rattle.transducer.specs.Valid.{Used}
 use Rattle.transducer.specs.declared.StateSet.{StateSet}
 use Rattle.transducer.specs.declared.Transition.{Transition}
 use Rattle.transducer.specs.declared.Transducer.{Transducer}
@@ -31,6 +30,14 @@ transducerOf n starts finals lines =
 abbrev pub appended : Transducer → Transition → Transducer
 appended t v = transducerOf (t .states) (t .starts) (t .finals) (linesOf t ++ (v ∷ []))
 
+-- lines without line l: those after it move down one
+unfoldable pub without : ℕ → List Transition → List Transition
+without l lines = take l lines ++ drop (suc l) lines
+
+-- t without its line l
+abbrev pub removed : Transducer → ℕ → Transducer
+removed t l = transducerOf (t .states) (t .starts) (t .finals) (without l (linesOf t))
+
 -- v is one of the lines
 abbrev pub Among : Transition → List Transition → Type 0
 Among v lines = List·Memᴰ v lines
@@ -38,10 +45,6 @@ Among v lines = List·Memᴰ v lines
 -- each of these lines is one of those
 abbrev pub AllAmong : List Transition → List Transition → Type 0
 AllAmong lines lines′ = (v : Transition) → Among v lines → Among v lines′
-
--- a line keeps the rules of a transition in use, among n states: as a test, `Used` being the same as facts
-unfoldable pub lineOf : ℕ → Transition → Bool
-lineOf n v = usedOf n v && codesOf v
 
 -- what makes a transducer that keeps the rules
 pub record Keeps (n : ℕ) (starts finals : StateSet) (lines : List Transition) : Type 0 where

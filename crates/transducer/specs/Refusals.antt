@@ -71,6 +71,14 @@ manyPairs = 16
 abbrev pub manyTransitions : ℕ
 manyTransitions = 17
 
+-- no transition has the number
+abbrev pub noSuchTransition : ℕ
+noSuchTransition = 18
+
+-- a transition breaks a range, or holds anything but 0 beyond its count of output codes
+abbrev pub wrongTransition : ℕ
+wrongTransition = 19
+
 -- an answer list is too short: a refusal of the library's, which the documents do not have
 abbrev pub answerTooShort : ℕ
 answerTooShort = 100

@@ -69,6 +69,10 @@ codesOf v = allBelow mostOutputs (codeOf v)
 unfoldable pub usedOf : ℕ → Transition → Bool
 usedOf n v = ltb (v .from) n && ltb (v .to) n && leb (v .input .0) mostCode && leb (v .count) mostOutputs
 
+-- a transition in use, among n states: `Used`, as a test
+unfoldable pub lineOf : ℕ → Transition → Bool
+lineOf n v = usedOf n v && codesOf v
+
 -- the fields of a transition that is not in use, but for its output
 unfoldable pub clearOf : Transition → Bool
 clearOf v = eqb (v .from) 0 && eqb (v .to) 0 && eqb (v .input .0) 0 && eqb (v .count) 0

@@ -34,5 +34,9 @@ pub const MORE_THAN_ONE_CODE: u8 = 15;
 pub const MANY_PAIRS: u8 = 16;
 // A transducer would have too many transitions.
 pub const MANY_TRANSITIONS: u8 = 17;
+// No transition has the number.
+pub const NO_SUCH_TRANSITION: u8 = 18;
+// A transition breaks a range, or holds anything but 0 beyond its count of output codes.
+pub const WRONG_TRANSITION: u8 = 19;
 // An answer list is too short: the library's own, which the documents do not have.
 pub const ANSWER_TOO_SHORT: u8 = 100;

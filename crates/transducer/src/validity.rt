@@ -5,7 +5,7 @@ ghost use Prim.Native.Nat.{ℕ, _<_};
 ghost use lib.ListN.{length};
 ghost use Rattle.transducer.specs.Limits.{mostTransitions, mostOutputs};
 ghost use Rattle.transducer.specs.Transition.{at};
-ghost use Rattle.transducer.specs.Valid.{allBelow, codeOf, codesOf, usedOf, clearOf, placeOf, setOf, Tested};
+ghost use Rattle.transducer.specs.Valid.{allBelow, codeOf, codesOf, usedOf, lineOf, clearOf, placeOf, setOf, Tested};
 use crate::StateSet;
 use crate::Transducer;
 use crate::Transition;
@@ -58,12 +58,20 @@ fn place_ok(n: u8, used: bool, v: Transition) -> bool
     ensures { λ r. ⌜ r ≡ (cond used (usedOf n v) (clearOf v) && codesOf v) ⌝ }
     ensures { λ _. ⌜ length (v .output) ≡ mostOutputs ⌝ }
 {
-    let codes = codes_ok(v);
     if used {
-        used_ok(n, v) & codes
-    } else {
-        clear_ok(v) & codes
+        return line_ok(n, v);
     }
+    let codes = codes_ok(v);
+    clear_ok(v) & codes
+}
+
+// Whether v is a transition in use among n states.
+pub fn line_ok(n: u8, v: Transition) -> bool
+    ensures { λ r. ⌜ r ≡ lineOf n v ⌝ }
+    ensures { λ _. ⌜ length (v .output) ≡ mostOutputs ⌝ }
+{
+    let codes = codes_ok(v);
+    used_ok(n, v) & codes
 }
 
 // Whether the fields of v, but for its output, are those of a transition in use among n states.

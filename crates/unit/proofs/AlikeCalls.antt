@@ -14,10 +14,10 @@ use Rattle.wordsearch.specs.Limits.{mostWritten}
 use Rattle.witness.specs.Showing.{Buffers}
 use Rattle.functionality.specs.Decided.{fullOf}
 use Rattle.engine.specs.Engine.{Taken, tableOf}
-use Rattle.engine.specs.Demand3.{JudgedInFull, TranslatedInFull}
+use Rattle.engine.specs.Demand3.{file, JudgedInFull, TranslatedInFull}
 use Rattle.engine.specs.declared.Judgement.{Judgement}
 use Rattle.engine.specs.declared.FileTranslation.{FileTranslation}
-use Rattle.engine.proofs.Demand3.{demand-3, file-same}
+use Rattle.engine.proofs.Demand3.{demand-3, served-same}
 use Rattle.answers.specs.Answers.{refusalCode, fileCode, flagOf, translateAnswer}
 use Rattle.unit.specs.Calls.{verdictCode, VerdictGiven, TranslationGiven}
 use Rattle.unit.specs.Laws.{SameTranslation}
@@ -42,7 +42,7 @@ module _ {f a a′ : List ℕ} {b b′ : Buffers} {r : ℕ} (h : VerdictGiven f 
   file-taken : Taken f
   file-taken = code-taken f (none-of _ past-answer .0)
 
-  in-full : JudgedInFull f b b′ judgement
+  in-full : JudgedInFull (file f) b b′ judgement
   in-full = record { full = full-buffers (fullOf b) (none-of _ (none-of _ past-answer .1) .0); judged = h .done z .judged }
 
   front-given : take 2 a′ ≡ flagOf (judgement .split) ∷ judgement .useful ∷ []
@@ -51,7 +51,7 @@ module _ {f a a′ : List ℕ} {b b′ : Buffers} {r : ℕ} (h : VerdictGiven f 
 pub alike-verdict : {f g a a′ c c′ : List ℕ} {b b′ d d′ : Buffers} {r s : ℕ} → Alike (tableOf f) (tableOf g)
     → VerdictGiven f b b′ a a′ r → r ≡ 0 → VerdictGiven g d d′ c c′ s → s ≡ 0 → take 2 a′ ≡ take 2 c′
 alike-verdict {f} alike h z k y =
-    let same = demand-3 f (file-taken h z) .alike (in-full h z) (file-taken k y) alike (in-full k y) in
+    let same = demand-3 (file f) (file-taken h z) .alike (in-full h z) (file-taken k y) alike (in-full k y) in
     front-given h z ∙ (λ i. flagOf (same .0 i) ∷ same .1 i ∷ []) ∙ sym (front-given k y)
 
 -- ---- the translation
@@ -65,10 +65,10 @@ returned taken long h =
 pub alike-translation : {f g input out₁ out₁′ a a′ out₂ out₂′ c c′ : List ℕ} {r s : ℕ} → Taken f → Taken g → Alike (tableOf f) (tableOf g)
     → Functional (tableOf f) → mostWritten ≤ length out₁ → mostWritten ≤ length out₂ → translateAnswer ≤ length a → translateAnswer ≤ length c
     → TranslationGiven f input out₁ out₁′ a a′ r → TranslationGiven g input out₂ out₂′ c c′ s → SameTranslation out₁′ out₂′ a′ c′ r s
-alike-translation {out₁′ = out₁′} {out₂′ = out₂′} {r = r} {s} taken taken′ alike functional room room′ long long′ h k =
-    let one : TranslatedInFull _ _ _ _ (h .translation) = record { room = room; translated = h .translated long } in
-    let other : TranslatedInFull _ _ _ _ (k .translation) = record { room = room′; translated = k .translated long′ } in
-    let same = file-same taken taken′ alike functional one other in
+alike-translation {f} {g} {out₁′ = out₁′} {out₂′ = out₂′} {r = r} {s} taken taken′ alike functional room room′ long long′ h k =
+    let one : TranslatedInFull (file f) _ _ _ (h .translation) = record { room = room; translated = h .translated long } in
+    let other : TranslatedInFull (file g) _ _ _ (k .translation) = record { room = room′; translated = k .translated long′ } in
+    let same = served-same taken taken′ alike functional one other in
     let code : r ≡ s = returned taken long h ∙ ap (λ n. refusalCode n 0) (same .number) ∙ sym (returned taken′ long′ k) in
     record {
       returned = code;

@@ -8,6 +8,7 @@ use native.Mathlib.Decide.{ℕ-discrete}
 use native.Mathlib.Omega.{arith}
 use lib.ListN.{length, getD, take}
 use lib.Seq.{ext-getD}
+use Rattle.edits.specs.Edits.{Edit}
 use Rattle.buffers.specs.Put.{put}
 use Rattle.transducer.specs.Refusals.{answerTooShort}
 use Rattle.transducer.specs.Paths.{Functional}
@@ -23,12 +24,14 @@ use Rattle.joinfiles.specs.declared.FileJoin.{FileJoin}
 use Rattle.joinfiles.proofs.JoinLaws.{joined-number, files-joined-determined}
 use Rattle.answers.specs.Answers.{refusalCode, flagOf, numbersOf, translateAnswer, joinAnswer}
 use Rattle.unit.specs.Calls.{VerdictGiven, translateCode, TranslationGiven, AnswerIn, AcceptsGiven}
-use Rattle.unit.specs.Calls.{Flagged, StatesGiven, PairsGiven, DifferenceGiven, FileGiven, joinedCode, JoinGiven}
+use Rattle.unit.specs.Calls.{Flagged, StatesGiven, PairsGiven, DifferenceGiven, FileGiven, joinedCode, JoinGiven, EditGiven}
 use Rattle.unit.specs.Laws.{SameVerdict, Boundary}
 use Rattle.unit.proofs.Codes.{no-room, taken-code, code-taken, front, front-two}
 use Rattle.unit.proofs.WordCalls.{accepts-agreement}
 use Rattle.unit.proofs.AlikeCalls.{alike-verdict, alike-translation}
 use Rattle.unit.proofs.JoinCalls.{join-number-told, join-record-told, second-told, few-records, joined-file, alike-join}
+use Rattle.unit.proofs.EditCalls.{edited-file}
+use Rattle.unit.proofs.EditRows.{edit-rows}
 
 number-told : (number at : ℕ) → number < 65536 → refusalCode number at % 65536 ≡ number
 unfolding refusalCode
@@ -171,14 +174,18 @@ difference-determined : {x y a a₁ a₂ : List ℕ} {r₁ r₂ : ℕ} → Diffe
 difference-determined h k =
     let same = h .code ∙ sym (k .code) in (same, same-left same (λ z z′. h .done z ∙ sym (k .done z′)) (h .refused) (k .refused))
 
+-- a refusal changes nothing, and else both lists are what they are
+same-given : {out out₁ out₂ w a a₁ a₂ k : List ℕ} {r₁ r₂ : ℕ} → r₁ ≡ r₂ → (r₁ ≢ 0 → (out₁ ≡ out) × (a₁ ≡ a)) → (r₂ ≢ 0 → (out₂ ≡ out) × (a₂ ≡ a))
+    → (r₁ ≡ 0 → (out₁ ≡ w) × (a₁ ≡ k)) → (r₂ ≡ 0 → (out₂ ≡ w) × (a₂ ≡ k)) → (r₁ ≡ r₂) × (out₁ ≡ out₂) × (a₁ ≡ a₂)
+same-given same refused refused′ done done′ = (
+  same,
+  same-left same (λ z z′. done z .0 ∙ sym (done′ z′ .0)) (λ n. refused n .0) (λ n. refused′ n .0),
+  same-left same (λ z z′. done z .1 ∙ sym (done′ z′ .1)) (λ n. refused n .1) (λ n. refused′ n .1),
+)
+
 file-determined : {f out out₁ out₂ a a₁ a₂ : List ℕ} {r₁ r₂ : ℕ} → FileGiven f out out₁ a a₁ r₁ → FileGiven f out out₂ a a₂ r₂
     → (r₁ ≡ r₂) × (out₁ ≡ out₂) × (a₁ ≡ a₂)
-file-determined h k =
-    let same = h .code ∙ sym (k .code) in (
-      same,
-      same-left same (λ z z′. h .done z .0 ∙ sym (k .done z′ .0)) (λ n. h .refused n .0) (λ n. k .refused n .0),
-      same-left same (λ z z′. h .done z .1 ∙ sym (k .done z′ .1)) (λ n. h .refused n .1) (λ n. k .refused n .1),
-    )
+file-determined h k = same-given (h .code ∙ sym (k .code)) (h .refused) (k .refused) (h .done) (k .done)
 
 -- ---- two files in series
 
@@ -208,6 +215,12 @@ join-determined {out₁ = out₁} {out₂} {a} {a₁} {a₂} {r₁} {r₂} h k =
         let kept′ = k .refused (λ z. omega (arith, other)) in
         (one ∙ sym other, kept .0 ∙ sym (kept′ .0), kept .1 ∙ sym (kept′ .1))
 
+-- ---- a file, edited
+
+edit-determined : {f out out₁ out₂ a a₁ a₂ : List ℕ} {fault : ℕ} {e : Edit} {r₁ r₂ : ℕ} → EditGiven f fault e out out₁ a a₁ r₁
+    → EditGiven f fault e out out₂ a a₂ r₂ → (r₁ ≡ r₂) × (out₁ ≡ out₂) × (a₁ ≡ a₂)
+edit-determined h k = same-given (h .code ∙ sym (k .code)) (h .refused) (k .refused) (h .done) (k .done)
+
 pub boundary : Boundary
 boundary =
     record {
@@ -232,4 +245,7 @@ boundary =
       join = join-determined;
       joined-file = joined-file;
       alike-join = alike-join;
+      edit = edit-determined;
+      edited-file = edited-file;
+      edits = edit-rows;
     }

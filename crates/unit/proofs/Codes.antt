@@ -9,7 +9,7 @@ use Rattle.buffers.specs.Put.{put}
 use Rattle.tablereader.specs.Outcome as outcome
 use Rattle.tablereader.specs.Reader.{readOf}
 use Rattle.tablereader.specs.declared.Reading.{Reading}
-use Rattle.tablereader.proofs.Outcomes.{taken-number}
+use Rattle.tablereader.proofs.Outcomes.{taken-record}
 use Rattle.engine.specs.Engine.{Taken}
 use Rattle.engine.specs.declared.Judgement.{Judgement}
 use Rattle.answers.specs.Answers.{refusalCode, fileCode, roomFault, flagOf, numbersOf}
@@ -40,7 +40,7 @@ code-zero n at z = omega arith
 
 -- the code of a file that is taken is 0
 pub taken-code : (f : List ℕ) → Taken f → fileCode f ≡ 0
-taken-code f t = rw (t, ap outcome.recordOf (taken-number (readOf f .outcome) t)) (no-record 0)
+taken-code f t = rw (t, taken-record (readOf f .outcome) t) (no-record 0)
 
 -- and no other's is
 pub code-taken : (f : List ℕ) → fileCode f ≡ 0 → Taken f

@@ -6,4 +6,6 @@ mod UsefulCalls
 mod FileCalls
 mod AlikeCalls
 mod JoinCalls
+mod EditCalls
+mod EditRows
 pub mod Boundary

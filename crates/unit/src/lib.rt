@@ -3,9 +3,12 @@
 // the list `answer`, whose length is looked at before anything else. The contracts cite specs/Calls.antt; specs/Laws.antt says what they determine.
 ghost use mathlib.Core.Path.{_≡_};
 ghost use Rattle.witness.specs.Showing.{buffersOf};
+ghost use Rattle.tablereader.specs.Transitions.{transitionOf};
+ghost use Rattle.edits.specs.Edits.{Edit};
+ghost use Rattle.editfiles.specs.Editing.{lineFault};
 ghost use Rattle.answers.specs.Answers.{fileCode};
 ghost use Rattle.unit.specs.Calls.{VerdictGiven, TranslationGiven, AcceptsGiven, StatesGiven, PairsGiven, DifferenceGiven};
-ghost use Rattle.unit.specs.Calls.{FileGiven, JoinGiven};
+ghost use Rattle.unit.specs.Calls.{FileGiven, JoinGiven, EditGiven};
 use product::steps::PAIRS;
 use transducer::limits;
 use transducer::refusals;
@@ -205,4 +208,48 @@ pub extern "C" fn yotselina_join(
     }
     let join = joinfiles::join_files(first, second, out);
     answers::give_join(answer, join)
+}
+
+// Reads a table file and writes the file with the line whose numbers are `line` behind its last to the front of `out`; the answer is the byte count.
+#[no_mangle]
+pub extern "C" fn yotselina_append(
+    file: &[u8],
+    line: &[u8],
+    out: &mut [u8],
+    answer: &mut [u64],
+) -> u32
+    ensures { λ r. ⌜
+        EditGiven (now (file .entry)) (lineFault (now (line .entry))) (Edit.append (transitionOf (now (line .entry))))
+        (now (out .entry)) (now (out .exit)) (now (answer .entry)) (now (answer .exit))
+        r
+        ⌝ }
+{
+    if answer.len() < answers::EDIT {
+        return ANSWER_TOO_SHORT;
+    }
+    let appended = editfiles::append(file, line, out);
+    let numbers = [appended.length as u64];
+    answers::give(answer, &numbers, appended.number, appended.record)
+}
+
+// Reads a table file and writes the file without its line number `number` to the front of `out`; the answer is the byte count.
+#[no_mangle]
+pub extern "C" fn yotselina_remove(
+    file: &[u8],
+    number: usize,
+    out: &mut [u8],
+    answer: &mut [u64],
+) -> u32
+    ensures { λ r. ⌜
+        EditGiven (now (file .entry)) 0 (Edit.remove number)
+        (now (out .entry)) (now (out .exit)) (now (answer .entry)) (now (answer .exit))
+        r
+        ⌝ }
+{
+    if answer.len() < answers::EDIT {
+        return ANSWER_TOO_SHORT;
+    }
+    let removed = editfiles::remove(file, number, out);
+    let numbers = [removed.length as u64];
+    answers::give(answer, &numbers, removed.number, removed.record)
 }

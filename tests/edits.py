@@ -1,0 +1,266 @@
+"""Comparisons of the library's edits (yotselina_append, yotselina_remove): lists of them with the lists of lines that they make, each call with what
+it owes (owed.py), and files that are known by hand."""
+
+from itertools import product
+
+import cases
+import generate
+import lines
+import reference
+from boundary import SOME_TABLES, as_note, check, same_refusal, written_by
+from cases import LINE, header, table
+from compare import randomness, size_name
+from library import Library, build
+from owed import TOO_SHORT, table_of
+from reference import Refused
+from settings import share
+from transducer import LINE_PLACES, MAX_CODE, MAX_FILE, MAX_OUTPUTS, MAX_STATES, MAX_TRANSITIONS, Transition, places_of, table_file
+from wordtest import ANSWERS, FILES
+from workers import spread
+
+GROUP = "edits"
+ITSELF = "reference itself, edits"
+LENGTH = 40  # edits of a list
+LISTS = 5  # lists from each named table
+ASKED = 20  # after one edit of a list in so many, verdict and translations are asked for
+MANY = 100  # lines from which they are asked for only after the last edit
+PAST = 5  # edits beyond a full table, and beyond an empty one
+EDITS = {"append": reference.append, "remove": reference.remove}
+
+# 256 different lines, some with each count of outputs
+FULL = table(MAX_STATES, range(0, MAX_STATES, 3), range(1, MAX_STATES, 3),
+             *((i % MAX_STATES, 7 * i % MAX_STATES, i % (MAX_CODE + 1), *[1 + i % MAX_CODE] * (i % (MAX_OUTPUTS + 1)))
+               for i in range(MAX_TRANSITIONS)))
+ALMOST_FULL = FULL._replace(transitions=FULL.transitions[:-1])
+STATES_ONLY = FULL._replace(transitions=())
+NAMED = {
+    "the least file": reference.read(cases.LEAST), "table P": cases.P, "the longest file": reference.read(cases.LONGEST), "256 lines": FULL,
+    "255 lines": ALMOST_FULL, "no lines": STATES_ONLY, "one state, no lines": cases.ONE_STATE,
+}
+
+
+def by_text(content, name, given):
+    """The file after an edit that is taken, by its text alone: another count in the first record, and one record more or less."""
+    first, *records = content.splitlines(keepends=True)
+    count = int(first[13:])
+    if name == "append":
+        records.append(b"L%s\n" % b"".join(b"%4d" % field for field in given[:4 + given[3]]))
+    else:
+        del records[len(records) - count + given]
+    return first[:13] + b"%4d\n" % (count + (1 if name == "append" else -1)) + b"".join(records)
+
+
+# --- lists of edits --------------------------------------------------------------------------------------------------
+
+
+class Edited:
+    """A file that the library edits, and beside it the table that the reference's edits make of the table at first."""
+
+    def __init__(self, library, findings, random, transducer):
+        self.library, self.findings, self.random = library, findings, random
+        self.table, self.content = transducer, table_file(transducer)
+
+    def edit(self, what, name, given):
+        """One edit: what it owes, and the whole file after it, which stays where the edit is refused. Returns whether all is so."""
+        before, note = self.content, f"{what}\n{as_note([given])}"
+        call = self.library.call(self.random, name, before, given)
+        self.findings.count(f"library, {GROUP}, {name}", what)
+        if not check(self.findings, f"{GROUP}, {name}", table_of(before), call, note):
+            return False
+        try:
+            self.table = EDITS[name](self.table, given)
+            expected = table_file(self.table)
+            self.findings.check_apart(ITSELF, [] if by_text(before, name, given) == expected else ["by the text it is another file"], before, note)
+        except Refused:
+            expected = before
+        self.content = before if call.returned else written_by(call)
+        faults = [] if self.content == expected else ["not the file of the edited table"]
+        self.findings.check(f"library, {GROUP}, the file after each edit of a list", faults, before, note)
+        return not faults
+
+    def ask(self):
+        """Verdict and translations of the edited file, as of any other."""
+        for name, *words in (("verdict",), *(("translate", word) for word in generate.input_words(self.random, self.table))):
+            call = self.library.call(self.random, name, self.content, *words)
+            check(self.findings, f"{GROUP}, {name} of the edited file", table_of(self.content), call, as_note(words))
+        self.findings.count(f"library, {GROUP}, lines of a table that is asked about", size_name(len(self.table.transitions)))
+
+    def edit_all(self, edits):
+        """A list of edits, each made for the table as it then is; ends where something is wrong, and returns whether nothing is."""
+        for place, make in enumerate(edits, 1):
+            if not self.edit(*make(self.random, self.table)):
+                return False
+            if place == len(edits) or place % ASKED == 0 and len(self.table.transitions) < MANY:
+                self.ask()
+        return True
+
+    def there_and_back(self, line):
+        """A line appended and removed again, and the last line removed and appended again: each time the file that was."""
+        held, count = self.content, len(self.table.transitions)
+        ways = [(("append", places_of(line)), ("remove", count))] if count < MAX_TRANSITIONS else []
+        ways += [(("remove", count - 1), ("append", places_of(last))) for last in self.table.transitions[-1:]]
+        for way in ways:
+            back = all(self.edit("there and back", *edit) for edit in way) and self.content == held
+            self.findings.check(f"library, {GROUP}, there and back", [] if back else ["another file"], held)
+            if not back:
+                return
+
+
+def compare_list(library, findings, name, index):
+    """A list of any edits from a named table or from a generated one of this kind; then one that is undone."""
+    random = randomness(GROUP, name, index)
+    transducer = NAMED[name] if name in NAMED else generate.KINDS[name][1](random)[0]
+    edited, growing = Edited(library, findings, random, transducer), random.choice((0.3, 0.5, 0.7))
+    if edited.edit_all([lambda random, held: lines.any_edit(random, held, growing)] * LENGTH):
+        edited.there_and_back(lines.good_line(random, edited.table))
+
+
+# tables that are filled, and from where they are emptied then
+FILLED = (("the least file", "first"), ("table P", "any"), ("no lines", "last"), ("the longest file", "any"))
+
+
+def compare_filled(library, findings, name, order):
+    """A table filled to 256 lines and past it, then emptied from one end, from the other or anywhere, and past that."""
+    random = randomness(GROUP, "filled", name, order)
+    edited = Edited(library, findings, random, NAMED[name])
+    more = MAX_TRANSITIONS - len(edited.table.transitions)
+    fill = [lambda random, held: ("to fill it", "append", places_of(lines.good_line(random, held)))] * (more + PAST)
+    numbers = {"first": lambda count: 0, "last": lambda count: max(0, count - 1), "any": lambda count: random.randrange(count or 1)}
+    empty = [lambda random, held: ("to empty it", "remove", numbers[order](len(held.transitions)))] * (MAX_TRANSITIONS + PAST)
+    edited.edit_all(fill + empty)
+
+
+def compare_each(library, findings, name):
+    """Each line of a named table removed by itself; and numbers that no line has."""
+    random = randomness(GROUP, "each", name)
+    content, count = table_file(NAMED[name]), len(NAMED[name].transitions)
+    for number in (*range(count), *lines.numbers_not_there(random, count)):
+        check(findings, f"{GROUP}, each line removed", table_of(content), library.call(random, "remove", content, number), f"{name}: {number}")
+
+
+def compare_ways(library, findings, name):
+    """Lines with each count of outputs, appended to a named table: good, and with one place wrong, in every way."""
+    random = randomness(GROUP, "ways", name)
+    content, last = table_file(NAMED[name]), NAMED[name].states - 1
+    for count in range(MAX_OUTPUTS + 1):
+        line = Transition(last, last, MAX_CODE, (MAX_CODE, 1, 5, 6, 7, 8, 9, 10)[:count])
+        for places in (places_of(line), *lines.wrong_lines(NAMED[name], line)):
+            call = library.call(random, "append", content, places)
+            check(findings, f"{GROUP}, good and wrong lines", table_of(content), call, f"{name}\n{as_note([places])}")
+
+
+# lines without outputs, with some, with the most
+LINES = (Transition(0, 0, 0), Transition(0, 0, MAX_CODE, (1, MAX_CODE, 5)), Transition(0, 0, 1, (MAX_CODE,) * MAX_OUTPUTS))
+
+
+def compare_bytes(library, findings, line):
+    """Every byte at each place of a line."""
+    random = randomness(GROUP, "bytes", line)
+    for name in ("table P", "no lines"):
+        content = table_file(NAMED[name])
+        for at, value in product(range(LINE_PLACES), range(256)):
+            places = lines.changed(places_of(line), at, value)
+            check(findings, f"{GROUP}, every byte", table_of(content), library.call(random, "append", content, places), as_note([places]))
+
+
+# --- known files -----------------------------------------------------------------------------------------------------
+
+P_LINE, P_OTHER = b"L   0   0   1   1   5\n", b"L   0   0   1   1   6\n"
+EIGHT = b"L   0   0 250   8   1  22 250   4   5   6   7   8\n"
+
+
+P_AND_A_LINE = b"""T   1   1   1   3
+S   0
+F   0
+L   0   0   1   1   5
+L   0   0   1   1   6
+L   0   0   2   0
+"""
+P_SECOND_LINE = b"""T   1   1   1   1
+S   0
+F   0
+L   0   0   1   1   6
+"""
+P_NO_LINE = b"""T   1   1   1   0
+S   0
+F   0
+"""
+
+
+def p_file(*records):
+    """Table P's file with other lines, at most nine."""
+    return b"T   1   1   1   %d\nS   0\nF   0\n" % len(records) + b"".join(records)
+
+
+# what it is about, the file, the call with what it is given, the file after it
+KNOWN = (
+    ("P, a line that writes nothing", cases.P_FILE, "append", bytes((0, 0, 2, 0, *[0] * 8)), P_AND_A_LINE),
+    ("P, a line that reads nothing", cases.P_FILE, "append", bytes((0, 0, 0, 1, 9, *[0] * 7)), p_file(P_LINE, P_OTHER, b"L   0   0   0   1   9\n")),
+    ("P, eight outputs", cases.P_FILE, "append", bytes((0, 0, 250, 8, 1, 22, 250, 4, 5, 6, 7, 8)), p_file(P_LINE, P_OTHER, EIGHT)),
+    ("P, its first line once more", cases.P_FILE, "append", bytes((0, 0, 1, 1, 5, *[0] * 7)), p_file(P_LINE, P_OTHER, P_LINE)),
+    ("P without its first line", cases.P_FILE, "remove", 0, P_SECOND_LINE),
+    ("P without its second line", cases.P_FILE, "remove", 1, p_file(P_LINE)),
+    ("P without a line that was appended", P_AND_A_LINE, "remove", 2, cases.P_FILE),
+    ("the only line", P_SECOND_LINE, "remove", 0, P_NO_LINE),
+    ("a middle line", p_file(P_LINE, EIGHT, P_OTHER), "remove", 1, cases.P_FILE),
+    ("one of two that are the same", p_file(P_LINE, P_OTHER, P_LINE), "remove", 0, p_file(P_OTHER, P_LINE)),
+    ("the least file", b"T   1   0   0   0\n", "append", bytes(12), b"T   1   0   0   1\nL   0   0   0   0\n"),
+    ("the tenth line", header(lines=9) + LINE * 9, "append", bytes((0, 0, 1, *[0] * 9)), b"T   1   0   0  10\n" + LINE * 10),
+    ("the hundredth line", header(lines=99) + LINE * 99, "append", bytes((0, 0, 1, *[0] * 9)), b"T   1   0   0 100\n" + LINE * 100),
+    ("the 256th line", header(lines=255) + LINE * 255, "append", bytes((0, 0, 1, *[0] * 9)), b"T   1   0   0 256\n" + LINE * 256),
+    ("255 lines are left", header(lines=256) + LINE * 255 + b"L   0   0   2   0\n", "remove", 255, b"T   1   0   0 255\n" + LINE * 255),
+    ("99 lines are left", header(lines=100) + b"L   0   0   2   0\n" + LINE * 99, "remove", 0, b"T   1   0   0  99\n" + LINE * 99),
+    ("9 lines are left", header(lines=10) + LINE * 10, "remove", 5, b"T   1   0   0   9\n" + LINE * 9),
+    ("states 31", b"T  32   1   1   0\nS  31\nF   0\n", "append", bytes((31, 30, 10, *[0] * 9)),
+     b"T  32   1   1   1\nS  31\nF   0\nL  31  30  10   0\n"),
+)
+
+
+def compare_known(library, findings):
+    """What is written, byte for byte."""
+    random = randomness(GROUP, "known")
+    for title, content, name, given, expected in KNOWN:
+        call = library.call(random, name, content, given)
+        faults = [f"returned {call.returned}"] if call.returned else []
+        faults += [f"{lent} holds something else than it owes" for lent in call.changed({"out": expected, "answer": (len(expected),)})]
+        findings.check(f"library, {GROUP}, known files", faults, content, f"{title}\n{as_note([given])}")
+
+
+# --- refusals --------------------------------------------------------------------------------------------------------
+
+GOOD, WRONG = bytes(LINE_PLACES) + b"\xff", b"\xff" * (LINE_PLACES + 1)  # and a place more, which is not looked at
+GIVEN = (*(("append", line[:size]) for line in (GOOD, WRONG) for size in range(LINE_PLACES + 2)),
+         *(("remove", number) for number in (0, 1, 2, 254, 255, 256, 2**8 + 1, 2**16, 2**32, 2**32 + 1, lines.MAX_NUMBER)))
+REFUSED = (*FILES, (table_file(FULL), None), (table_file(ALMOST_FULL), None))  # files, with their own refusals
+
+
+def own_refusals(count, name, given):
+    """The numbers of the refusals of an edit that hold on a table of so many lines, in their order, but for a file that does not fit."""
+    if name == "remove":
+        return [18] * (given >= count)
+    return [TOO_SHORT] * (len(given) < LINE_PLACES) + [19] * (given[:1] == WRONG[:1]) + [17] * (count == MAX_TRANSITIONS)
+
+
+def compare_refusals(library, findings, content, broken):
+    """Every refusal, and every two and more of them at once: the answer list, the file, the call's own, the place for the file."""
+    random = randomness(GROUP, "refusals", content)
+    for (places, short), (name, given) in product(ANSWERS, GIVEN):
+        own = [] if broken else own_refusals(int(content[13:17]), name, given)
+        length = 0 if broken or own else len(by_text(content, name, given))
+        for out in sorted({0, *range(max(0, length - 2), length + 3), MAX_FILE}):
+            refusals = [(short, 0)] * bool(short) + [broken] * bool(broken) + [(number, 0) for number in own] + [(TOO_SHORT, 0)] * (out < length)
+            call = library.call(random, name, content, given, out=out, answer=places)
+            if refusals:
+                same_refusal(findings, f"{GROUP}, which refusal goes first", call, *refusals[0], as_note([given]))
+            else:
+                check(findings, f"{GROUP}, no refusal", table_of(content), call, as_note([given]))
+
+
+def run(findings):
+    build()
+    jobs = [(compare_list, kind, index) for kind, (count, _) in generate.KINDS.items() for index in range(share(-(-count // SOME_TABLES)))]
+    jobs += [(compare_list, name, index) for name in NAMED for index in range(share(LISTS))]
+    jobs += [(compare_filled, *filled) for filled in FILLED] + [(compare_bytes, line) for line in LINES]
+    jobs += [(compare, name) for compare in (compare_each, compare_ways) for name in NAMED]
+    jobs += [(compare_refusals, *refused) for refused in REFUSED] + [(compare_known,)]
+    spread(Library, jobs, findings)
