@@ -72,7 +72,7 @@ fn search(sides: &Sides, roots: &[usize], end: impl Fn(&Transition) -> usize) ->
 }
 
 /// A line: the numbers of the states that it leaves and enters, what it reads, and what writes its codes.
-struct Line<'a>(usize, usize, u8, Option<&'a Transition>);
+pub struct Line<'a>(pub usize, pub usize, pub u8, pub Option<&'a Transition>);
 
 fn lines<'a>(sides: &Sides<'a>, joined: &[usize], numbers: &[usize]) -> Result<Vec<Line<'a>>, u32> {
     let mut lines = Vec::new();
@@ -90,7 +90,8 @@ fn lines<'a>(sides: &Sides<'a>, joined: &[usize], numbers: &[usize]) -> Result<V
     Ok(lines)
 }
 
-fn file(states: usize, starts: &[usize], finals: &[usize], lines: &[Line]) -> Vec<u8> {
+/// The file of a table.
+pub fn file(states: usize, starts: &[usize], finals: &[usize], lines: &[Line]) -> Vec<u8> {
     let mut text = Vec::with_capacity(18 + 6 * (starts.len() + finals.len()) + 50 * lines.len());
     put(&mut text, b'T', [states, starts.len(), finals.len(), lines.len()]);
     starts.iter().for_each(|&state| put(&mut text, b'S', [state]));

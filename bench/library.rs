@@ -1,5 +1,7 @@
 //! The library's calls (include/yotselina.h), over buffers that are made once and used again by each call.
 
+use crate::edits::Edit;
+
 extern "C" {
     fn yotselina_check(file: *const u8, file_length: usize) -> u32;
     fn yotselina_verdict(
@@ -59,6 +61,25 @@ extern "C" {
         answer: *mut u64,
         answer_length: usize,
     ) -> u32;
+    fn yotselina_append(
+        file: *const u8,
+        file_length: usize,
+        line: *const u8,
+        line_length: usize,
+        out: *mut u8,
+        out_length: usize,
+        answer: *mut u64,
+        answer_length: usize,
+    ) -> u32;
+    fn yotselina_remove(
+        file: *const u8,
+        file_length: usize,
+        number: usize,
+        out: *mut u8,
+        out_length: usize,
+        answer: *mut u64,
+        answer_length: usize,
+    ) -> u32;
 }
 
 pub const WITNESS: usize = 2_047;
@@ -70,7 +91,8 @@ pub const FILE: usize = 13_202;
 pub const STATES: usize = 32;
 pub const PAIRS: usize = 1_024;
 pub const UNREAD: u32 = 11;
-pub const JOIN_REFUSALS: [u32; 3] = [15, 16, 17];
+/// What some calls refuse of tables that are measured.
+pub const OTHER_REFUSALS: [(&str, u32); 5] = [("join", 15), ("join", 16), ("join", 17), ("append", 17), ("remove", 18)];
 
 pub fn check(file: &[u8]) -> u32 {
     unsafe { yotselina_check(file.as_ptr(), file.len()) }
@@ -159,7 +181,23 @@ impl Buffers {
     /// The joined table's file, or the refusal.
     pub fn join(&mut self, first: &[u8], second: &[u8]) -> Result<&[u8], u32> {
         let (out, answer) = (self.out.as_mut_ptr(), self.answer.as_mut_ptr());
-        match unsafe { yotselina_join(first.as_ptr(), first.len(), second.as_ptr(), second.len(), out, FILE, answer, 1) } {
+        let returned = unsafe { yotselina_join(first.as_ptr(), first.len(), second.as_ptr(), second.len(), out, FILE, answer, 1) };
+        self.written(returned)
+    }
+
+    /// The edited table's file, or the refusal.
+    pub fn edit(&mut self, file: &[u8], edit: Edit) -> Result<&[u8], u32> {
+        let (out, answer) = (self.out.as_mut_ptr(), self.answer.as_mut_ptr());
+        let returned = match edit {
+            Edit::Append(line) => unsafe { yotselina_append(file.as_ptr(), file.len(), line.as_ptr(), line.len(), out, FILE, answer, 1) },
+            Edit::Remove(number) => unsafe { yotselina_remove(file.as_ptr(), file.len(), number, out, FILE, answer, 1) },
+        };
+        self.written(returned)
+    }
+
+    /// The file that a call has written, or its refusal.
+    fn written(&self, returned: u32) -> Result<&[u8], u32> {
+        match returned {
             0 => Ok(&self.out[..self.answer[0] as usize]),
             refusal => Err(refusal),
         }

@@ -2,6 +2,7 @@
 //! `bench REPETITIONS COMPILER`; bench/run builds and starts it. README.md says how it is measured.
 
 mod accepts;
+mod edits;
 mod equations;
 mod join;
 mod library;
@@ -11,6 +12,7 @@ mod search;
 mod stack;
 mod tables;
 
+use edits::Edit;
 use library::Buffers;
 use std::hint::black_box;
 use tables::*;
@@ -404,6 +406,60 @@ fn join_row(name: &str, tables: [Table; 2], repetitions: usize, buffers: &mut Bu
     Row { name: name.to_string(), facts, ours, yardstick, net: Some(net) }
 }
 
+// --- edits -----------------------------------------------------------------------------------------------------------
+
+const SHORT_LINE: [u8; 12] = [0; 12];
+const LONG_LINE: [u8; 12] = [0, 0, 250, 8, 250, 250, 250, 250, 250, 250, 250, 250];
+
+type Edits = Vec<(&'static str, Table, Edit)>;
+
+fn appends() -> Edits {
+    vec![
+        ("one state, no lines", one_state(), Edit::Append(SHORT_LINE)),
+        ("D", d([5, 6]), Edit::Append(LONG_LINE)),
+        ("255 loops", loops(255, 1), Edit::Append(LONG_LINE)),
+        ("dense, 32 states, 8 inputs, but one line", dense(32, 8).first(255), Edit::Append(LONG_LINE)),
+        ("dense, 32 states, 8 inputs", dense(32, 8), Edit::Append(LONG_LINE)),
+    ]
+}
+
+fn removals() -> Edits {
+    vec![
+        ("one loop, its line", loops(1, 1), Edit::Remove(0)),
+        ("D, the first line", d([5, 6]), Edit::Remove(0)),
+        ("256 loops, the first line", loops(256, 1), Edit::Remove(0)),
+        ("dense, 32 states, 8 inputs, the first line", dense(32, 8), Edit::Remove(0)),
+        ("dense, 32 states, 8 inputs, the last line", dense(32, 8), Edit::Remove(255)),
+        ("dense, 32 states, 8 inputs, no line", dense(32, 8), Edit::Remove(256)),
+    ]
+}
+
+fn edit_row(name: &str, table: Table, edit: Edit, repetitions: usize, buffers: &mut Buffers) -> Row {
+    let file = table.file();
+    let found = edits::edit(&file, edit);
+    let expected = found.as_deref().map_err(|&number| number);
+    let answer = found.as_ref().map_or_else(|number| format!("refused {number}"), |edited| grouped(edited.len()));
+    let facts = [plain::read(&file).transitions.len().to_string(), answer];
+    let given = || (black_box(&file[..]), black_box(edit));
+    let mut ours = || {
+        let (file, edit) = given();
+        compare(name, "the library", buffers.edit(file, edit), expected)
+    };
+    let mut plain_rust = || {
+        let (file, edit) = given();
+        compare(name, "edits.rs", edits::edit(file, edit).as_deref().map_err(|&number| number), expected)
+    };
+    let [ours, yardstick] = measure(name, repetitions, [&mut ours, &mut plain_rust]);
+    Row { name: name.to_string(), facts, ours, yardstick, net: None }
+}
+
+fn edit_section(call: &'static str, title: &'static str, rows: Edits, repetitions: usize, buffers: &mut Buffers) -> Section {
+    let mut section = Section::new(title, call, ["edits.rs", ""], ["lines", "bytes written"]);
+    let rows = rows.into_iter().map(|(name, table, edit)| edit_row(name, table, edit, repetitions, buffers));
+    section.groups.push(("Small and full tables", rows.collect()));
+    section
+}
+
 // --- memory ----------------------------------------------------------------------------------------------------------
 
 /// What a call is given: a table's file, an input word, an output word, the file of a table behind the first.
@@ -432,7 +488,7 @@ fn print_memory(buffers: &mut Buffers) {
         given.extend(rows.into_iter().map(|(_, first, second)| Given { second: second.file(), ..single(first) }));
     }
     type Call = fn(&mut Buffers, &Given) -> u32;
-    let calls: [(&str, usize, Call); 9] = [
+    let calls: [(&str, usize, Call); 11] = [
         ("check", 0, |_, given| library::check(&given.file)),
         ("verdict", 5 * library::WITNESS + 2 * library::WITNESS_OUTPUT + 7 * 8, |buffers, given| buffers.verdict(&given.file).0),
         ("translate", library::OUTPUT + 8, |buffers, given| buffers.translate(&given.file, &given.word).err().unwrap_or(0)),
@@ -442,13 +498,15 @@ fn print_memory(buffers: &mut Buffers) {
         ("difference", 2 * 8, |buffers, given| buffers.difference(&given.file, &given.word)),
         ("write", library::FILE + 8, |buffers, given| buffers.write(&given.file)),
         ("join", library::FILE + 8, |buffers, given| buffers.join(&given.file, &given.second).err().unwrap_or(0)),
+        ("append", library::FILE + 8, |buffers, given| buffers.edit(&given.file, Edit::Append(SHORT_LINE)).err().unwrap_or(0)),
+        ("remove", library::FILE + 8, |buffers, given| buffers.edit(&given.file, Edit::Remove(0)).err().unwrap_or(0)),
     ];
     println!("\n## Memory of each call\n\n| call | stack, bytes | lent buffers, bytes |\n|---|---|---|");
     let stacks = calls.map(|(name, bytes, call)| {
         let depth = |given: &Given| {
             stack::depth(&mut || {
                 let returned = call(buffers, given);
-                let expected = returned == 0 || returned == library::UNREAD || name == "join" && library::JOIN_REFUSALS.contains(&returned);
+                let expected = returned == 0 || returned == library::UNREAD || library::OTHER_REFUSALS.contains(&(name, returned));
                 assert!(expected, "{name} refuses with {returned}");
             })
         };
@@ -572,6 +630,8 @@ fn main() {
         let rows = rows.into_iter().map(|(name, first, second)| join_row(name, [first, second], repetitions, buffers));
         series.groups.push((title, rows.collect()));
     }
+    let append = edit_section("yotselina_append", "Appending", appends(), repetitions, buffers);
+    let remove = edit_section("yotselina_remove", "Removing", removals(), repetitions, buffers);
     let mut reading = Section::new("Reading", "yotselina_check", ["plain.rs", ""], ["bytes", "lines"]);
     let files = [("one state, no lines", one_state()), ("D", d([5, 6])), ("dense, 32 states, 8 inputs", dense(32, 8))];
     reading.groups.push(("The file alone", files.map(|(name, table)| reading_row(name, table, repetitions)).into()));
@@ -580,7 +640,7 @@ fn main() {
     println!("One run of `bench/run`. Repetitions: {repetitions}; {}; processors: {processors}; load at the start: {load}.\n", arguments[2]);
     println!("| library / yardstick | tables, by the library's time | smallest ratio | largest ratio | worst table by ratio |");
     println!("|---|---|---|---|---|");
-    let sections = [verdict, translation, test, series, reading];
+    let sections = [verdict, translation, test, series, append, remove, reading];
     sections.iter().for_each(Section::print_ratios);
     println!("\n| library | longest µs | worst table by time |\n|---|---|---|");
     sections.iter().for_each(Section::print_longest);

@@ -22,8 +22,8 @@ GROUP = "edits"
 ITSELF = "reference itself, edits"
 LENGTH = 40  # edits of a list
 LISTS = 5  # lists from each named table
-ASKED = 20  # after one edit of a list in so many, verdict and translations are asked for
-MANY = 100  # lines from which they are asked for only after the last edit
+MANY = 40  # lines: of a table with fewer, verdict and translations are asked for after each edit of a list
+ASKED = 20  # of any other after one in so many, and after the last
 PAST = 5  # edits beyond a full table, and beyond an empty one
 EDITS = {"append": reference.append, "remove": reference.remove}
 
@@ -90,7 +90,7 @@ class Edited:
         for place, make in enumerate(edits, 1):
             if not self.edit(*make(self.random, self.table)):
                 return False
-            if place == len(edits) or place % ASKED == 0 and len(self.table.transitions) < MANY:
+            if len(self.table.transitions) < MANY or place % ASKED == 0 or place == len(edits):
                 self.ask()
         return True
 

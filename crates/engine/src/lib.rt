@@ -1,5 +1,6 @@
-// What a unit runs. `Demand3` of specs/Demand3.antt is demand 3, whole, as one statement about every file that the reader takes and all that
-// meets the contracts below; `demand-3` of proofs/Demand3.antt proves it. The contracts cite specs/Engine.antt.
+// What a unit runs. `Demand3` of specs/Demand3.antt is demand 3, whole, as one statement about every file that the reader takes, every transducer that is
+// accepted, and all that meets the contracts below or those of the functionality test and the translator; `demand-3` of proofs/Demand3.antt proves it. The
+// contracts cite specs/Engine.antt.
 ghost use Rattle.witness.specs.Showing.{buffersOf};
 ghost use Rattle.engine.specs.Engine.{Judged, FileTranslated};
 use witness::Counts;
