@@ -12,7 +12,6 @@ from cases import LINE, header, table
 from compare import randomness, size_name
 from library import Library, build
 from owed import TOO_SHORT, table_of
-from reference import Refused
 from settings import share
 from transducer import LINE_PLACES, MAX_CODE, MAX_FILE, MAX_OUTPUTS, MAX_STATES, MAX_TRANSITIONS, Transition, places_of, table_file
 from wordtest import ANSWERS, FILES
@@ -61,21 +60,19 @@ class Edited:
         self.table, self.content = transducer, table_file(transducer)
 
     def edit(self, what, name, given):
-        """One edit: what it owes, and the whole file after it, which stays where the edit is refused. Returns whether all is so."""
+        """One edit: what it owes, a refusal and that nothing which is lent has changed, or the whole file. Returns whether all is so."""
         before, note = self.content, f"{what}\n{as_note([given])}"
         call = self.library.call(self.random, name, before, given)
         self.findings.count(f"library, {GROUP}, {name}", what)
         if not check(self.findings, f"{GROUP}, {name}", table_of(before), call, note):
             return False
-        try:
-            self.table = EDITS[name](self.table, given)
-            expected = table_file(self.table)
-            self.findings.check_apart(ITSELF, [] if by_text(before, name, given) == expected else ["by the text it is another file"], before, note)
-        except Refused:
-            expected = before
-        self.content = before if call.returned else written_by(call)
+        if call.returned:
+            return True
+        self.content, self.table = written_by(call), EDITS[name](self.table, given)
+        expected = table_file(self.table)
+        self.findings.check_apart(ITSELF, [] if by_text(before, name, given) == expected else ["by the text it is another file"], before, note)
         faults = [] if self.content == expected else ["not the file of the edited table"]
-        self.findings.check(f"library, {GROUP}, the file after each edit of a list", faults, before, note)
+        self.findings.check(f"library, {GROUP}, the file after each edit of a list that is taken", faults, before, note)
         return not faults
 
     def ask(self):

@@ -38,7 +38,7 @@ WORDS = {
              "append) below its size, whatever the outcome would be",
              "lend a longer one: 13,202 bytes hold any file, 65,528 places any output; the verdict takes 2,047 for the word and each path, "
              "16,376 for each output; useful states take 32 flags, useful pairs 1,024; a line has 12"),
-    8: Words(False, "a table value breaks a rule of document 01", "make tables by reading files"),
+    8: Words(False, "a table value breaks a rule of document 01", "make tables by reading files, by joining and by editing"),
     9: Words(False, "the input word has over 255 codes",
              "use a shorter word; its parts are other words, which the table may not read or may translate otherwise"),
     10: Words(False, "an input code is 0 or over 250", "codes are 1 to 250"),

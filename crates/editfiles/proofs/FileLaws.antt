@@ -2,20 +2,21 @@
 use mathlib.Core.Path.{_≡_, refl, sym, ap, _∙_}
 use mathlib.Core.List.{List}
 use Prim.Native.Nat.{ℕ}
-use Rattle.transducer.specs.Valid.{Shaped}
 use Rattle.transducer.specs.Lines.{linesOf, transducerOf}
 use Rattle.transducer.specs.declared.Transition.{Transition}
 use Rattle.transducer.specs.declared.Transducer.{Transducer}
+use Rattle.transducer.proofs.AcceptedLaws.{accepted-valid}
 use Rattle.transducer.proofs.LineLaws.{lines-long, made-lines}
 use Rattle.tablereader.specs.Reader.{readOf}
 use Rattle.tablereader.specs.Outcome as outcome
 use Rattle.tablereader.specs.declared.Reading.{Reading}
 use Rattle.tablereader.proofs.Outcomes.{taken-number}
 use Rattle.tablereader.proofs.Validity.{read-accepted}
+use Rattle.tablereader.proofs.ReadLaws.{read-shaped}
 use Rattle.tablewriter.specs.File.{transitionBytesBelow, headerBytes, writeOf}
 use Rattle.tablefile.proofs.RoundTrips.{round-trips}
-use Rattle.edits.specs.Edits.{Edit, lineRefusal, editLines, editOf}
-use Rattle.edits.proofs.RowLaws.{edit-accepted}
+use Rattle.edits.specs.Edits.{Edit, Whole, lineRefusal, editLines, editOf}
+use Rattle.edits.proofs.RowLaws.{edit-accepted, edit-shaped}
 use Rattle.engine.specs.Engine.{Taken, tableOf}
 use Rattle.editfiles.specs.Rack.{fileWith, EditOfFile}
 
@@ -40,17 +41,23 @@ made-with t lines = written-with made ∙ same ∙ ap (fileWith t) (made-lines (
     same : fileWith made (linesOf made) ≡ fileWith t (linesOf made)
     same = parts-with t (linesOf made) lines
 
--- a file that is taken is that of its table's lines
+-- a file that is taken is its table's
+pub taken-written : (f : List ℕ) → Taken f → f ≡ writeOf (tableOf f)
+taken-written f taken = sym (round-trips .written-read f (taken-number (readOf f .outcome) taken))
+
+-- and so that of its table's lines
 pub taken-with : (f : List ℕ) → Taken f → f ≡ fileWith (tableOf f) (linesOf (tableOf f))
-taken-with f taken = sym (round-trips .written-read f (taken-number (readOf f .outcome) taken)) ∙ written-with (tableOf f)
+taken-with f taken = taken-written f taken ∙ written-with (tableOf f)
 
 -- an edit that is not refused, of a file that is taken
-pub edit-of-file : (f : List ℕ) (e : Edit) → lineRefusal (tableOf f .states) (linesOf (tableOf f)) e ≡ 0 → Shaped (editOf (tableOf f) e)
+pub edit-of-file : (f : List ℕ) (e : Edit) → Whole e → lineRefusal (tableOf f .states) (linesOf (tableOf f)) e ≡ 0
     → EditOfFile f e (writeOf (editOf (tableOf f) e))
 unfolding editOf
-edit-of-file f e none shaped =
+edit-of-file f e whole none =
     let t = tableOf f in
-    let read = round-trips .read-written (editOf t e) (edit-accepted t e (read-accepted f) none) shaped in
+    let accepted = read-accepted f in
+    let shaped = edit-shaped t e (accepted-valid t accepted) (read-shaped f) whole none in
+    let read = round-trips .read-written (editOf t e) (edit-accepted t e accepted none) shaped in
     record {
       bytes = made-with t (editLines (linesOf t) e);
       taken = ap (λ (r : Reading). outcome.numberOf (r .outcome)) read;

@@ -56,7 +56,7 @@ module _ (f : List ℕ) (fault : ℕ) (e : Edit) (out : List ℕ) where
   refused-so : {r : FileEdit} {number at : ℕ} → number ≢ 0 → number ≡ editNumber f fault e out → at ≡ recordOf f → r ≡ refusedWith number at
       → FileEdited f fault e out out r
   refused-so {number = number} n k at same =
-      let not-done = ne-eqb number 0 n in rw same (record { number = k; at-record = at; count = rw not-done; buffer = rw not-done; shaped = λ z. absurd (n z) })
+      let not-done = ne-eqb number 0 n in rw same (record { number = k; at-record = at; count = rw not-done; buffer = rw not-done })
 
   pub file-refused : {reading : Reading} {number at : ℕ} {r : FileEdit} → reading ≡ readOf f → number ≡ outcome.numberOf (reading .outcome)
       → at ≡ outcome.recordOf (reading .outcome) → number ≢ 0 → r ≡ refusedWith number at → FileEdited f fault e out out r
@@ -93,7 +93,6 @@ module _ (f : List ℕ) (fault : ℕ) (e : Edit) (out : List ℕ) where
             at-record = no-record f t;
             count = wrote .count;
             buffer = wrote .buffer;
-            shaped = λ _. rw table at (h .shaped);
           })
       go (no n) =
           let refused = w .refused n in rw (refused .1) (refused-so n (past-line t none (this-one _ number n)) (no-record f t) (refused .0))

@@ -7,7 +7,6 @@ use lib.Dec.{eqb, leb}
 use lib.ListN.{length}
 use Rattle.buffers.specs.Put.{put}
 use Rattle.transducer.specs.Refusals.{tooShort, firstOf}
-use Rattle.transducer.specs.Valid.{Shaped}
 use Rattle.transducer.specs.Lines.{linesOf}
 use Rattle.records.specs.Letters.{mostFields}
 use Rattle.tablewriter.specs.File.{writeOf}
@@ -30,11 +29,10 @@ editNumber f fault e out =
 abbrev pub whereDone : {A : Type 0} → FileEdit → A → A → A
 whereDone r done refused = cond (eqb (r .number) 0) done refused
 
--- the answer is r, and the buffer is left with out′: the file of the edited table, whose arrays have their lengths, stands at its front, or it is as it was
+-- the answer is r, and the buffer is left with out′: the file of the edited table stands at its front, or it is as it was
 pub record FileEdited (f : List ℕ) (fault : ℕ) (e : Edit) (out out′ : List ℕ) (r : FileEdit) : Type 0 where
   pub number : r .number ≡ editNumber f fault e out
   -- the record at which the file is refused, 0 where it is taken
   pub at-record : r .«record» ≡ file.recordOf f
   pub count : r .length ≡ whereDone r (length (writeOf (editOf (tableOf f) e))) 0
   pub buffer : out′ ≡ whereDone r (put out 0 (writeOf (editOf (tableOf f) e))) out
-  pub shaped : r .number ≡ 0 → Shaped (editOf (tableOf f) e)

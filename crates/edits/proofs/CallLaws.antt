@@ -15,7 +15,8 @@ use Rattle.transducer.specs.Lines.{linesOf, appended, removed}
 use Rattle.transducer.specs.declared.Transition.{Transition}
 use Rattle.transducer.specs.declared.Transducer.{Transducer}
 use Rattle.transducer.proofs.RefusalLaws.{this-one, none-then, only-one}
-use Rattle.edits.specs.Edits.{Edit, append, remove, lineRefusal, editLines, refusalOf, editOf, numberOf, EditedBy, HandedBack}
+use Rattle.edits.specs.Edits.{Edit, append, remove, lineRefusal, editLines, refusalOf, editOf, numberOf, EditedBy}
+use Rattle.edits.specs.Parts.{handedBack}
 use Rattle.edits.specs.declared.Outcome.{Outcome}
 use Rattle.edits.specs.declared.Outcome.the-variants.{Done, Invalid}
 use Rattle.edits.specs.declared.Edited.{Edited}
@@ -47,15 +48,10 @@ module _ (n : ℕ) (lines : List Transition) where
 
 module _ (t : Transducer) (e : Edit) where
   -- a refusal hands the transducer back
-  refused-so : {r : Edited} {o : Outcome} → Shaped t → numberOf o ≢ 0 → numberOf o ≡ refusalOf t e → HandedBack o t r → EditedBy t e r
-  refused-so s n k h =
-      record {
-        number = ap numberOf (h .outcome-is) ∙ k;
-        table = h .table ∙ rw (ne-eqb (refusalOf t e) 0 (λ z. n (k ∙ z))) refl;
-        shaped = rw (h .table) s;
-      }
+  refused-so : {r : Edited} {o : Outcome} → Shaped t → numberOf o ≢ 0 → numberOf o ≡ refusalOf t e → r ≡ handedBack o t → EditedBy t e r
+  refused-so s n k same = rw same (record { number = k; table = rw (ne-eqb (refusalOf t e) 0 (λ z. n (k ∙ z))) refl; shaped = s })
 
-  pub not-accepted : {r : Edited} → Shaped t → acceptedOf t ≡ false → HandedBack Invalid t r → EditedBy t e r
+  pub not-accepted : {r : Edited} → Shaped t → acceptedOf t ≡ false → r ≡ handedBack Invalid t → EditedBy t e r
   unfolding refusalOf
   not-accepted s z h = refused-so s (λ z. omega arith) (this-one _ (rw z refl) (λ z. omega arith)) h
 
@@ -65,7 +61,7 @@ module _ (t : Transducer) (e : Edit) where
   past-8 z k = none-then _ (rw z refl) (only-one k)
 
   pub edit-refused : {r : Edited} {o : Outcome} → Shaped t → acceptedOf t ≡ true → numberOf o ≢ 0 → numberOf o ≡ lineRefusal (t .states) (linesOf t) e
-      → HandedBack o t r → EditedBy t e r
+      → r ≡ handedBack o t → EditedBy t e r
   edit-refused s z n k h = refused-so s n (past-8 z k) h
 
   pub edit-done : {t′ : Transducer} → acceptedOf t ≡ true → 0 ≡ lineRefusal (t .states) (linesOf t) e → t′ ≡ editOf t e → Shaped (editOf t e)

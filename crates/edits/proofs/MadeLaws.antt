@@ -1,98 +1,100 @@
--- Calls in a row that are there: every transducer that is accepted is made from the one without lines, by appending its lines one after the other. And
--- a line that is appended and removed again leaves the lines as they were. Assumes nothing.
-use mathlib.Core.Path.{_≡_, refl, sym, ap}
-use mathlib.Core.Bool.{true}
-use mathlib.Core.List.{List, [], _∷_, _++_, map, append-nil, append-assoc, Memᴰ·append-left, List·Memᴰ·head, Memᴰ·append-right}
-use Prim.Native.Nat.{ℕ, _<_}
+-- Calls in a row there are, for every list of edits, refused ones included. And a line that is appended and removed again leaves the lines as they were.
+-- Assumes nothing.
+use mathlib.Core.Path.{_≡_, refl, sym, ap, _∙_}
+use mathlib.Core.Bool.{Bool, true, false, cond}
+use mathlib.Core.List.{List, [], _∷_, _++_, List·Memᴰ, List·Memᴰ·head, List·Memᴰ·tail}
+use Prim.Native.Nat.{ℕ}
+use native.Mathlib.Decide.{ℕ-discrete}
 use native.Mathlib.Omega.{arith}
 use borrow.Author.Tests.{eq-eqb}
+use lib.Dec.{ltb}
 use lib.ListN.{length, length-append}
-use Rattle.transducer.specs.Limits.{mostStates, mostTransitions, mostOutputs}
-use Rattle.transducer.specs.Valid.{Valid, Shaped}
+use Rattle.transducer.specs.Limits.{mostTransitions}
+use Rattle.transducer.specs.Refusals.{manyTransitions, noSuchTransition, wrongTransition, firstOf}
+use Rattle.transducer.specs.Valid.{lineOf, Shaped}
 use Rattle.transducer.specs.Accepted.{acceptedOf}
-use Rattle.transducer.specs.Lines.{linesOf, transducerOf, without, Among, Keeps}
-use Rattle.transducer.specs.declared.StateSet.{StateSet}
+use Rattle.transducer.specs.Lines.{linesOf, transducerOf, without}
 use Rattle.transducer.specs.declared.Transition.{Transition}
 use Rattle.transducer.specs.declared.Transducer.{Transducer}
-use Rattle.transducer.proofs.Facts.{line-exactly}
-use Rattle.transducer.proofs.AcceptedLaws.{accepted-valid, valid-accepted}
-use Rattle.transducer.proofs.LineLaws.{among-numbered, made-lines, made-valid, made-shaped, made-again}
-use Rattle.edits.specs.Edits.{append, remove, lineRefusal, editLines, editOf, EditedBy}
-use Rattle.edits.specs.Rows.{Calls, no-call, call, afterEdit, afterEdits}
-use Rattle.edits.specs.declared.Outcome.the-variants.{Done}
-use Rattle.edits.proofs.CallLaws.{line-taken, line-there, edit-done}
+use Rattle.transducer.proofs.AcceptedLaws.{accepted-valid}
+use Rattle.edits.specs.Edits.{Edit, append, remove, Whole, lineRefusal, editLines, editOf, numberOf, EditedBy}
+use Rattle.edits.specs.Parts.{handedBack}
+use Rattle.edits.specs.Rows.{Calls, no-call, call, afterEdit, afterEdits, refusalsOf}
+use Rattle.edits.specs.declared.Outcome.{Outcome}
+use Rattle.edits.specs.declared.Outcome.the-variants.{Done, ManyTransitions, NoSuchTransition, WrongTransition}
+use Rattle.edits.specs.declared.Edited.{Edited}
+use Rattle.edits.proofs.CallLaws.{line-there, edit-refused, edit-done}
+use Rattle.edits.proofs.RowLaws.{edit-shaped, one-accepted, in-a-row}
 
--- ---- a transducer made by calls
+-- ---- one call
 
-module _ (n : ℕ) (starts finals : StateSet) (size : length (starts .member) ≡ mostStates) (size′ : length (finals .member) ≡ mostStates) where
-  abbrev made : List Transition → Transducer
-  made lines = transducerOf n starts finals lines
+-- an outcome with this number
+record Named (number : ℕ) : Type 0 where
+  outcome : Outcome
+  named : numberOf outcome ≡ number
 
-  -- lines that keep the rules, in arrays of their length
-  record Good (lines : List Transition) : Type 0 where
-    keeps : Keeps n starts finals lines
-    sizes : (v : Transition) → Among v lines → length (v .output) ≡ mostOutputs
+line-named : (kept room : Bool) → Named (firstOf (cond kept 0 wrongTransition ∷ cond room 0 manyTransitions ∷ []))
+unfolding firstOf
+line-named false room = record { outcome = WrongTransition; named = refl }
+line-named true false = record { outcome = ManyTransitions; named = refl }
+line-named true true = record { outcome = Done; named = refl }
 
-  good-valid : (lines : List Transition) → Good lines → Valid (made lines)
-  good-valid lines g = made-valid n starts finals lines .1 (g .keeps)
+number-named : (there : Bool) → Named (cond there 0 noSuchTransition)
+number-named false = record { outcome = NoSuchTransition; named = refl }
+number-named true = record { outcome = Done; named = refl }
 
-  good-shaped : (lines : List Transition) → Good lines → Shaped (made lines)
-  good-shaped lines g = made-shaped n starts finals lines size size′ (g .keeps .few-lines) (g .sizes)
+-- each refusal of an edit has one
+refusal-named : (n : ℕ) (lines : List Transition) (e : Edit) → Named (lineRefusal n lines e)
+unfolding lineRefusal
+refusal-named n lines (append v) = line-named (lineOf n v) (ltb (length lines) mostTransitions)
+refusal-named n lines (remove l) = number-named (ltb l (length lines))
 
-  -- the first of them are good, too
-  good-front : (lines more : List Transition) → Good (lines ++ more) → Good lines
-  good-front lines more g =
-      record {
-        keeps = record {
-          some-state = g .keeps .some-state;
-          few-states = g .keeps .few-states;
-          start-state = g .keeps .start-state;
-          final-state = g .keeps .final-state;
-          few-lines = omega (arith, g .keeps .few-lines, length-append lines more);
-          used = λ v m. g .keeps .used v (Memᴰ·append-left more m);
-        };
-        sizes = λ v m. g .sizes v (Memᴰ·append-left more m);
-      }
+-- what a call for e may answer
+pub record Answered (t : Transducer) (e : Edit) : Type 0 where
+  pub answer : Edited
+  pub answers : EditedBy t e answer
 
-  -- one more of them is appended
-  one-appended : (lines : List Transition) (v : Transition) → Good (lines ++ (v ∷ []))
-      → EditedBy (made lines) (append v) (record { outcome = Done; table = made (lines ++ (v ∷ [])) })
-  unfolding editOf editLines transducerOf
-  one-appended lines v g =
-      let own = made-lines n starts finals lines in
-      let before = good-front lines (v ∷ []) g in
-      let used = g .keeps .used v (Memᴰ·append-right lines (List·Memᴰ·head refl)) in
-      let room : length (linesOf (made lines)) < mostTransitions = omega (arith, ap length own, g .keeps .few-lines, length-append lines (v ∷ [])) in
-      edit-done (made lines) (append v) (valid-accepted (made lines) (good-valid lines before))
-      (line-taken n (linesOf (made lines)) v (line-exactly n v .1 used) room)
-      (ap (λ l. made (l ++ (v ∷ []))) (sym own))
-      (rw own (good-shaped (lines ++ (v ∷ [])) g))
-
-  all-appended : (lines more : List Transition) → Good (lines ++ more)
-      → Calls (made lines) (map append more) (map (λ _. 0) more) (made (lines ++ more))
-  all-appended lines [] g = no-call (ap made (sym (append-nil lines)))
-  all-appended lines (v ∷ more) g =
-      let same = append-assoc lines (v ∷ []) more in
-      let g′ : Good ((lines ++ (v ∷ [])) ++ more) = rw same g in
-      call (one-appended lines v (good-front (lines ++ (v ∷ [])) more g′)) refl (rw same at (all-appended (lines ++ (v ∷ [])) more g′))
-
--- every transducer that is accepted is made by calls from the one without lines
-pub made-by-calls : (t : Transducer) → acceptedOf t ≡ true → Shaped t
-    → Calls (transducerOf (t .states) (t .starts) (t .finals) []) (map append (linesOf t)) (map (λ _. 0) (linesOf t)) t
-made-by-calls t accepted shaped =
-    let v = accepted-valid t accepted in
-    let same = made-again t v shaped in
-    let calls = all-appended (t .states) (t .starts) (t .finals) (shaped .starts) (shaped .finals) [] (linesOf t) good in
-    rw same at calls
+pub call-there : (t : Transducer) (e : Edit) → acceptedOf t ≡ true → Shaped t → Whole e → Answered t e
+call-there t e accepted shaped whole = go (ℕ-discrete refusal 0)
   where
-    good : Good (t .states) (t .starts) (t .finals) (shaped .starts) (shaped .finals) (linesOf t)
-    good =
+    refusal : ℕ
+    refusal = lineRefusal (t .states) (linesOf t) e
+
+    go : Dec (refusal ≡ 0) → Answered t e
+    go (yes z) =
+        let lengths = edit-shaped t e (accepted-valid t accepted) shaped whole z in
+        record { answer = record { outcome = Done; table = editOf t e }; answers = edit-done t e accepted (sym z) refl lengths }
+    go (no n) =
+        let o = refusal-named (t .states) (linesOf t) e in
         record {
-          keeps = made-valid (t .states) (t .starts) (t .finals) (linesOf t) .0 (rw (made-again t (accepted-valid t accepted) shaped) (accepted-valid t accepted));
-          sizes = λ w m.
-              let k = among-numbered t m in
-              rw (k .same) at (shaped .outputs (k .number) (omega (arith, k .below, accepted-valid t accepted .few-transitions)));
+          answer = handedBack (o .outcome) t;
+          answers = edit-refused t e shaped accepted (λ z. n (sym (o .named) ∙ z)) (o .named) refl;
         }
+
+-- ---- any number of them
+
+record Row (t : Transducer) (edits : List Edit) : Type 0 where
+  numbers : List ℕ
+  last : Transducer
+  calls : Calls t edits numbers last
+
+row-there : (t : Transducer) (edits : List Edit) → acceptedOf t ≡ true → Shaped t → ((e : Edit) → List·Memᴰ e edits → Whole e) → Row t edits
+row-there t [] accepted shaped whole = record { numbers = []; last = t; calls = no-call refl }
+row-there t (e ∷ edits) accepted shaped whole =
+    let one = call-there t e accepted shaped (whole e (List·Memᴰ·head refl)) in
+    let more =
+    row-there (one .answer .table) edits (one-accepted accepted shaped (one .answers)) (one .answers .shaped) (λ e′ m. whole e′ (List·Memᴰ·tail m))
+    in
+    record { numbers = numberOf (one .answer .outcome) ∷ more .numbers; last = more .last; calls = call (one .answers) refl (more .calls) }
+
+-- whatever the edits, refused ones included, there are calls for them, with the refusals and the lines that the edits of the lines have
+pub calls-there : (t : Transducer) (edits : List Edit) → acceptedOf t ≡ true → Shaped t → ((e : Edit) → List·Memᴰ e edits → Whole e)
+    → Calls t edits (refusalsOf (t .states) (linesOf t) edits)
+    (transducerOf (t .states) (t .starts) (t .finals) (afterEdits (t .states) (linesOf t) edits))
+calls-there t edits accepted shaped whole =
+    let there = row-there t edits accepted shaped whole in
+    let row = in-a-row accepted shaped (there .calls) in
+    rw (row .refusals, row .table) at (there .calls)
 
 -- ---- an edit that is undone
 

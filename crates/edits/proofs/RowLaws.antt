@@ -1,8 +1,7 @@
 -- Calls in a row: each hands over what the edit of the lines makes, so all of them hand over what the edits make one after the other. Assumes nothing.
 use mathlib.Core.Path.{_≡_, refl, sym, ap, _∙_}
 use mathlib.Core.Bool.{Bool, true, false, cond}
-use mathlib.Core.List.{List}
-use mathlib.Core.Logic.{_≢_}
+use mathlib.Core.List.{List, _∷_}
 use Prim.Native.Nat.{ℕ, _<_}
 use native.Mathlib.Decide.{ℕ-discrete}
 use native.Mathlib.Omega.{arith}
@@ -17,21 +16,16 @@ use Rattle.transducer.specs.declared.StateSet.{StateSet}
 use Rattle.transducer.specs.declared.Transition.{Transition}
 use Rattle.transducer.specs.declared.Transducer.{Transducer}
 use Rattle.transducer.proofs.Facts.{line-exactly}
-use Rattle.transducer.proofs.RefusalLaws.{none-of}
+use Rattle.transducer.proofs.RefusalLaws.{no-fault, none-of}
 use Rattle.transducer.proofs.AcceptedLaws.{accepted-valid, valid-accepted}
-use Rattle.transducer.proofs.LineLaws.{lines-long, made-lines, made-again, appended-valid}
-use Rattle.transducer.proofs.RemovalLaws.{removed-valid}
-use Rattle.edits.specs.Edits.{Edit, append, remove, lineRefusal, editLines, refusalOf, editOf, numberOf, EditedBy}
+use Rattle.transducer.proofs.LineLaws.{lines-long, made-lines, made-again, appended-valid, appended-shaped}
+use Rattle.transducer.proofs.RemovalLaws.{removed-valid, removed-shaped}
+use Rattle.edits.specs.Edits.{Edit, append, remove, Whole, with-line, with-number, lineRefusal, editLines, refusalOf, editOf, numberOf, EditedBy}
 use Rattle.edits.specs.Rows.{Calls, no-call, call, afterEdit, afterEdits, refusalsOf, InARow}
 use Rattle.edits.specs.declared.Edited.{Edited}
 use Rattle.edits.proofs.CallLaws.{past-8, append-makes, remove-makes}
 
 -- ---- an edit that is not refused
-
--- a fault that is none: its test holds
-no-fault : (x : Bool) {fault : ℕ} → fault ≢ 0 → cond x 0 fault ≡ 0 → x ≡ true
-no-fault true n e = refl
-no-fault false n e = absurd (n e)
 
 module _ (n : ℕ) (lines : List Transition) where
   append-taken : (v : Transition) → lineRefusal n lines (append v) ≡ 0 → (lineOf n v ≡ true) × (length lines < mostTransitions)
@@ -57,6 +51,15 @@ edit-valid t (remove l) h z =
 pub edit-accepted : (t : Transducer) (e : Edit) → acceptedOf t ≡ true → lineRefusal (t .states) (linesOf t) e ≡ 0 → acceptedOf (editOf t e) ≡ true
 edit-accepted t e accepted z = valid-accepted (editOf t e) (edit-valid t e (accepted-valid t accepted) z)
 
+-- and its arrays have their lengths
+pub edit-shaped : (t : Transducer) (e : Edit) → Valid t → Shaped t → Whole e → lineRefusal (t .states) (linesOf t) e ≡ 0 → Shaped (editOf t e)
+edit-shaped t e h s (with-line v same size) z =
+    let taken = append-taken (t .states) (linesOf t) v (rw same at z) in
+    rw (same, append-makes t v) (appended-shaped t v s (omega (arith, lines-long t, taken .1)) size)
+edit-shaped t e h s (with-number l same) z =
+    let there = remove-taken (t .states) (linesOf t) l (rw same at z) in
+    rw (same, remove-makes t l) (removed-shaped t l h s (omega (arith, lines-long t, there)))
+
 -- ---- one call
 
 module _ {t : Transducer} {e : Edit} {r : Edited} (accepted : acceptedOf t ≡ true) (shaped : Shaped t) (h : EditedBy t e r) where
@@ -70,24 +73,24 @@ module _ {t : Transducer} {e : Edit} {r : Edited} (accepted : acceptedOf t ≡ t
   pub one-number : numberOf (r .outcome) ≡ refusal
   one-number = h .number ∙ same-refusal
 
-  one-table′ : r .table ≡ cond (eqb refusal 0) (editOf t e) t
-  one-table′ = h .table ∙ ap (λ n. cond (eqb n 0) (editOf t e) t) same-refusal
+  pub one-handed : r .table ≡ cond (eqb refusal 0) (editOf t e) t
+  one-handed = h .table ∙ ap (λ n. cond (eqb n 0) (editOf t e) t) same-refusal
 
   pub one-done : refusal ≡ 0 → r .table ≡ editOf t e
-  one-done z = one-table′ ∙ rw (eq-eqb refusal 0 z) refl
+  one-done z = one-handed ∙ rw (eq-eqb refusal 0 z) refl
 
   -- and hands over what that makes
   one-table : r .table ≡ transducerOf (t .states) (t .starts) (t .finals) (afterEdit (t .states) (linesOf t) e)
   unfolding editOf afterEdit
-  one-table = one-table′ ∙ go (eqb refusal 0)
+  one-table = one-handed ∙ go (eqb refusal 0)
     where
       go : (x : Bool) → cond x (transducerOf (t .states) (t .starts) (t .finals) (editLines (linesOf t) e)) t
           ≡ transducerOf (t .states) (t .starts) (t .finals) (cond x (editLines (linesOf t) e) (linesOf t))
       go true = refl
       go false = sym (made-again t (accepted-valid t accepted) shaped)
 
-  one-accepted : acceptedOf (r .table) ≡ true
-  one-accepted = rw one-table′ (go (ℕ-discrete refusal 0))
+  pub one-accepted : acceptedOf (r .table) ≡ true
+  one-accepted = rw one-handed (go (ℕ-discrete refusal 0))
     where
       go : Dec (refusal ≡ 0) → acceptedOf (cond (eqb refusal 0) (editOf t e) t) ≡ true
       go (yes z) = rw (eq-eqb refusal 0 z) (edit-accepted t e accepted z)
@@ -119,7 +122,7 @@ in-a-row {t} accepted shaped (call {edits = edits} h number rest) =
     let row = in-a-row (one-accepted accepted shaped h) (h .shaped) rest in
     let made = made-row (t .states) (t .starts) (t .finals) _ (one-table accepted shaped h) row in
     record {
-      refusals = rw (number ∙ one-number accepted shaped h, made .0);
+      refusals = λ i. (number ∙ one-number accepted shaped h) i ∷ made .0 i;
       table = made .1;
       accepted = row .accepted;
       shaped = row .shaped;

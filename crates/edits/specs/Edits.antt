@@ -5,7 +5,7 @@ use mathlib.Core.List.{List, [], _∷_, _++_}
 use Prim.Native.Nat.{ℕ}
 use lib.Dec.{eqb, ltb}
 use lib.ListN.{length}
-use Rattle.transducer.specs.Limits.{mostTransitions}
+use Rattle.transducer.specs.Limits.{mostTransitions, mostOutputs}
 use Rattle.transducer.specs.Refusals.{invalid, manyTransitions, noSuchTransition, wrongTransition, firstOf}
 use Rattle.transducer.specs.Valid.{lineOf, Shaped}
 use Rattle.transducer.specs.Accepted.{acceptedOf}
@@ -20,6 +20,11 @@ use Rattle.edits.specs.declared.Edited.{Edited}
 pub data Edit : Type 0 where
   append : Transition → Edit
   remove : ℕ → Edit
+
+-- an edit as a call is given one: a line with all its places for output codes, as every value of the type has them, or a number
+pub data Whole (e : Edit) : Type 0 where
+  with-line : (v : Transition) → e ≡ append v → length (v .output) ≡ mostOutputs → Whole e
+  with-number : (l : ℕ) → e ≡ remove l → Whole e
 
 -- ---- of a list of lines
 
@@ -58,8 +63,3 @@ pub record EditedBy (t : Transducer) (e : Edit) (r : Edited) : Type 0 where
   pub number : numberOf (r .outcome) ≡ refusalOf t e
   pub table : r .table ≡ cond (eqb (refusalOf t e) 0) (editOf t e) t
   pub shaped : Shaped (r .table)
-
--- a refusal: the outcome, and the transducer as it is
-pub record HandedBack (outcome : Outcome) (t : Transducer) (r : Edited) : Type 0 where
-  pub outcome-is : r .outcome ≡ outcome
-  pub table : r .table ≡ t

@@ -5,7 +5,8 @@ ghost use Prim.Native.Nat.{_<_};
 ghost use Rattle.transducer.specs.Limits.{mostTransitions};
 ghost use Rattle.transducer.specs.Valid.{Valid, Shaped};
 ghost use Rattle.transducer.specs.Lines.{appended, removed};
-ghost use Rattle.edits.specs.Edits.{Edit, numberOf, EditedBy, HandedBack};
+ghost use Rattle.edits.specs.Edits.{Edit, numberOf, EditedBy};
+ghost use Rattle.edits.specs.Parts.{handedBack};
 use transducer::Transducer;
 use transducer::Transition;
 use transducer::limits;
@@ -81,7 +82,7 @@ pub fn remove(t: Transducer, l: usize) -> Edited
 
 // A refusal: the transducer as it is.
 fn handed_back(outcome: Outcome, table: Transducer) -> Edited
-    ensures { λ r. ⌜ HandedBack outcome table r ⌝ }
+    ensures { λ r. ⌜ r ≡ handedBack outcome table ⌝ }
 {
     Edited { outcome, table }
 }

@@ -124,19 +124,19 @@ module _ (v : Transition) where
 
 place-facts : (t : Transducer) (l : ℕ) → placeOf t l ≡ true → (l < t .count → Used (t .states) (at t l)) × (t .count ≤ l → Clear (at t l))
 unfolding placeOf
-place-facts t l e =
-    let fields = and-left (cond (ltb l (t .count)) (usedOf (t .states) (at t l)) (clearOf (at t l))) (codesOf (at t l)) e in
-    let codes = and-right (cond (ltb l (t .count)) (usedOf (t .states) (at t l)) (clearOf (at t l))) (codesOf (at t l)) e in (
-      λ h. used-facts (t .states) (at t l) (rw (lt-ltb l (t .count) h) at fields) codes,
-      λ h. clear-facts (at t l) (rw (le-ltb l (t .count) h) at fields) codes,
-    )
+place-facts t l e = (
+  λ h. line-exactly (t .states) (at t l) .0 (rw (lt-ltb l (t .count) h) at e),
+  λ h.
+      let clear = rw (le-ltb l (t .count) h) at e in
+      clear-facts (at t l) (and-left (clearOf (at t l)) (codesOf (at t l)) clear) (and-right (clearOf (at t l)) (codesOf (at t l)) clear),
+)
 
 facts-place : (t : Transducer) (l : ℕ) → (l < t .count → Used (t .states) (at t l)) → (t .count ≤ l → Clear (at t l)) → placeOf t l ≡ true
 unfolding placeOf
 facts-place t l u r =
     ⊎-elim
     (λ (h : t .count ≤ l). let p = facts-clear (at t l) (r h) in rw (le-ltb l (t .count) h) (and-both (p .0) (p .1)))
-    (λ (h : l < t .count). let p = facts-used (t .states) (at t l) (u h) in rw (lt-ltb l (t .count) h) (and-both (p .0) (p .1)))
+    (λ (h : l < t .count). rw (lt-ltb l (t .count) h) (line-exactly (t .states) (at t l) .1 (u h)))
     (le-or-lt (t .count) l)
 
 valid-facts : (t : Transducer) → validOf t ≡ true → Valid t

@@ -10,7 +10,7 @@ use Rattle.transducer.specs.Valid.{Valid, Shaped}
 use Rattle.transducer.specs.Lines.{linesOf, without, removed, Among, AllAmong}
 use Rattle.transducer.specs.declared.Transition.{Transition}
 use Rattle.transducer.specs.declared.Transducer.{Transducer}
-use Rattle.transducer.proofs.LineLaws.{lines-long, among-numbered, made-lines, made-valid, made-shaped, made-again}
+use Rattle.transducer.proofs.LineLaws.{lines-long, among-numbered, made-valid, made-shaped, made-again}
 use Rattle.transducer.proofs.WithinLaws.{Within, lines-within}
 
 -- ---- lines
@@ -53,9 +53,6 @@ without-among (suc l) (w ∷ lines) v m =
 -- ---- a transducer
 
 module _ (t : Transducer) (l : ℕ) where
-  pub removed-lines : linesOf (removed t l) ≡ without l (linesOf t)
-  removed-lines = made-lines (t .states) (t .starts) (t .finals) (without l (linesOf t))
-
   -- what is left lies within what there was (document 02, job 12)
   pub removed-within : Valid t → Shaped t → Within (removed t l) t
   removed-within v s = rw (made-again t v s) at (lines-within (t .states) (t .starts) (t .finals) (without-among l (linesOf t)))

@@ -79,7 +79,7 @@ clearOf v = eqb (v .from) 0 && eqb (v .to) 0 && eqb (v .input .0) 0 && eqb (v .c
 
 -- transition l: below the count one in use, from there on one that is not
 unfoldable pub placeOf : Transducer → ℕ → Bool
-placeOf t l = cond (ltb l (t .count)) (usedOf (t .states) (at t l)) (clearOf (at t l)) && codesOf (at t l)
+placeOf t l = cond (ltb l (t .count)) (lineOf (t .states) (at t l)) (clearOf (at t l) && codesOf (at t l))
 
 -- no state from n on is in the set
 unfoldable pub setOf : ℕ → StateSet → Bool

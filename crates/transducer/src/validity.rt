@@ -55,7 +55,7 @@ fn places_ok(t: Transducer) -> bool
 
 // Whether the transition v is as it should be among n states: one in use if `used` says so, else one that is not.
 fn place_ok(n: u8, used: bool, v: Transition) -> bool
-    ensures { λ r. ⌜ r ≡ (cond used (usedOf n v) (clearOf v) && codesOf v) ⌝ }
+    ensures { λ r. ⌜ r ≡ cond used (lineOf n v) (clearOf v && codesOf v) ⌝ }
     ensures { λ _. ⌜ length (v .output) ≡ mostOutputs ⌝ }
 {
     if used {

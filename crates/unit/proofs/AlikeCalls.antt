@@ -1,7 +1,7 @@
 -- Files whose tables are alike are answered alike by the verdict and the translation for C. It follows from demand 3, which says it of the judgement and
 -- the translation that they answer with. Assumes nothing.
 use mathlib.Core.Path.{_≡_, refl, sym, ap, _∙_}
-use mathlib.Core.Bool.{Bool, true, false, cond}
+use mathlib.Core.Bool.{cond}
 use mathlib.Core.List.{List, [], _∷_}
 use Prim.Native.Nat.{ℕ, _≤_}
 use native.Mathlib.Omega.{arith}
@@ -9,7 +9,7 @@ use lib.ListN.{length, take}
 use Rattle.transducer.specs.Refusals.{tooShort, firstOf}
 use Rattle.transducer.specs.Paths.{Functional}
 use Rattle.transducer.specs.Alike.{Alike}
-use Rattle.transducer.proofs.RefusalLaws.{none-of}
+use Rattle.transducer.proofs.RefusalLaws.{no-fault, none-of}
 use Rattle.wordsearch.specs.Limits.{mostWritten}
 use Rattle.witness.specs.Showing.{Buffers}
 use Rattle.functionality.specs.Decided.{fullOf}
@@ -26,10 +26,6 @@ use Rattle.unit.proofs.WordCalls.{length-given, told}
 
 -- ---- the verdict
 
-full-buffers : (x : Bool) → cond x 0 tooShort ≡ 0 → x ≡ true
-full-buffers true z = refl
-full-buffers false z = absurd (omega arith)
-
 -- a verdict that is not refused is a judgement of a file that is taken, from buffers that are lent in full
 module _ {f a a′ : List ℕ} {b b′ : Buffers} {r : ℕ} (h : VerdictGiven f b b′ a a′ r) (z : r ≡ 0) where
   abbrev judgement : Judgement
@@ -43,7 +39,7 @@ module _ {f a a′ : List ℕ} {b b′ : Buffers} {r : ℕ} (h : VerdictGiven f 
   file-taken = code-taken f (none-of _ past-answer .0)
 
   in-full : JudgedInFull (file f) b b′ judgement
-  in-full = record { full = full-buffers (fullOf b) (none-of _ (none-of _ past-answer .1) .0); judged = h .done z .judged }
+  in-full = record { full = no-fault (fullOf b) (λ z. omega arith) (none-of _ (none-of _ past-answer .1) .0); judged = h .done z .judged }
 
   front-given : take 2 a′ ≡ flagOf (judgement .split) ∷ judgement .useful ∷ []
   front-given = ap (take 2) (h .done z .answer) ∙ front-two a judgement

@@ -3,41 +3,27 @@ use mathlib.Core.Path.{_≡_, refl, sym, ap, _∙_}
 use mathlib.Core.List.{List, [], _∷_}
 use mathlib.Core.Logic.{_≢_}
 use Prim.Native.Nat.{ℕ, _≤_, _<_}
-use native.Mathlib.Decide.{ℕ-discrete}
 use native.Mathlib.Omega.{arith}
 use borrow.Author.Tests.{eq-eqb}
 use lib.ListN.{length, getD, take}
 use Rattle.buffers.specs.Put.{put}
 use Rattle.buffers.proofs.PutLaws.{front-put}
 use Rattle.transducer.specs.Lines.{linesOf}
-use Rattle.transducer.specs.Refusals.{answerTooShort, firstOf}
-use Rattle.transducer.proofs.RefusalLaws.{this-one, none-then, none-of}
-use Rattle.tablereader.specs.Reader.{readOf}
-use Rattle.tablereader.proofs.Outcomes.{taken-record}
+use Rattle.transducer.specs.Refusals.{answerTooShort}
+use Rattle.transducer.proofs.RefusalLaws.{this-one, none-then, only-one, none-of}
 use Rattle.tablewriter.specs.File.{writeOf}
-use Rattle.edits.specs.Edits.{Edit, lineRefusal, editOf}
-use Rattle.engine.specs.Engine.{numberOf, recordOf, Taken, tableOf}
+use Rattle.edits.specs.Edits.{Edit, Whole, lineRefusal, editOf}
+use Rattle.engine.specs.Engine.{recordOf, tableOf}
 use Rattle.editfiles.specs.Editing.{editNumber, FileEdited}
 use Rattle.editfiles.specs.Rack.{EditOfFile}
 use Rattle.editfiles.specs.declared.FileEdit.{FileEdit}
 use Rattle.editfiles.proofs.FileLaws.{edit-of-file}
-use Rattle.editfiles.proofs.AnswerLaws.{refused-leaves, done-record}
-use Rattle.answers.specs.Answers.{refusalCode, fileCode, editAnswer, Given}
+use Rattle.editfiles.proofs.AnswerLaws.{number-none, refused-leaves, done-record}
+use Rattle.answers.specs.Answers.{refusalCode, editAnswer, Given}
 use Rattle.unit.specs.Calls.{editCode, EditGiven}
-use Rattle.unit.proofs.Codes.{room, no-room, no-record, code-zero, taken-code, code-taken, front}
+use Rattle.unit.proofs.Codes.{room, no-room, no-record, code-zero, front}
 
 -- ---- the returns
-
--- a refusal with the file's record is the file's code, or where the file is taken that of the others
-first-code : (f faults : List ℕ) → refusalCode (firstOf (numberOf f ∷ faults)) (recordOf f) ≡ firstOf (fileCode f ∷ faults)
-first-code f faults = go (ℕ-discrete (numberOf f) 0)
-  where
-    go : Dec (numberOf f ≡ 0) → refusalCode (firstOf (numberOf f ∷ faults)) (recordOf f) ≡ firstOf (fileCode f ∷ faults)
-    go (yes t) =
-        ap (refusalCode (firstOf (numberOf f ∷ faults))) (taken-record (readOf f .outcome) t) ∙ no-record _ ∙ sym (none-then faults t refl)
-        ∙ none-then faults (taken-code f t) refl
-    go (no n) =
-        ap (λ k. refusalCode k (recordOf f)) (sym (this-one faults refl n)) ∙ this-one faults refl (λ z. n (code-zero (numberOf f) (recordOf f) z))
 
 module _ {f out a : List ℕ} {fault : ℕ} {e : Edit} where
   pub edit-short : length a < editAnswer → EditGiven f fault e out out a a answerTooShort
@@ -47,21 +33,19 @@ module _ {f out a : List ℕ} {fault : ℕ} {e : Edit} where
         code = this-one _ (no-room _ _ _ h) (λ z. omega arith);
         refused = λ _. (refl, refl);
         done = λ z. absurd (omega arith);
-        shaped = λ z. absurd (omega arith);
       }
 
   pub edit-answered : {out′ a′ : List ℕ} {edit : FileEdit} {r : ℕ} → editAnswer ≤ length a → FileEdited f fault e out out′ edit
       → Given (edit .number) (edit .«record») (edit .length ∷ []) a a′ r → EditGiven f fault e out out′ a a′ r
-  unfolding editCode editNumber
+  unfolding editCode
   edit-answered {out′} {a′} {edit} {r} long h g =
       record {
-        code = none-then _ (room _ _ _ long) (told ∙ first-code f _);
+        code = none-then _ (room _ _ _ long) (only-one told);
         refused = λ n. let refused : edit .number ≢ 0 = λ z. n (done z) in (refused-leaves h refused, g .refused refused);
         done = λ z.
             let none = undone z in
             let all = eq-eqb (edit .number) 0 none in
             (h .buffer ∙ rw all, g .answered none ∙ ap (λ k. put a 0 (k ∷ [])) (h .count ∙ rw all));
-        shaped = λ z. h .shaped (undone z);
       }
     where
       told : r ≡ refusalCode (editNumber f fault e out) (recordOf f)
@@ -75,18 +59,15 @@ module _ {f out a : List ℕ} {fault : ℕ} {e : Edit} where
 
 -- ---- an edit that is done
 
--- nothing is refused but for the buffer
-edit-none : (f : List ℕ) (fault : ℕ) (e : Edit) (out a : List ℕ) → editCode f fault e out a ≡ 0
-    → (Taken f) × (lineRefusal (tableOf f .states) (linesOf (tableOf f)) e ≡ 0)
+-- nothing is wrong with the edit
+edit-none : (f : List ℕ) (fault : ℕ) (e : Edit) (out a : List ℕ) → editCode f fault e out a ≡ 0 → lineRefusal (tableOf f .states) (linesOf (tableOf f)) e ≡ 0
 unfolding editCode
-edit-none f fault e out a z =
-    let of-file = none-of _ (none-of _ z .1) in
-    (code-taken f (of-file .0), none-of _ (none-of _ (of-file .1) .1) .0)
+edit-none f fault e out a z = number-none f e fault out (code-zero (editNumber f fault e out) (recordOf f) (none-of _ (none-of _ z .1) .0)) .1
 
-pub edited-file : {f out out′ a a′ : List ℕ} {fault : ℕ} {e : Edit} {r : ℕ} → EditGiven f fault e out out′ a a′ r → r ≡ 0
+pub edited-file : {f out out′ a a′ : List ℕ} {fault : ℕ} {e : Edit} {r : ℕ} → Whole e → EditGiven f fault e out out′ a a′ r → r ≡ 0
     → EditOfFile f e (take (getD a′ 0 0) out′)
-edited-file {f} {out} {a = a} {fault = fault} {e} h z =
+edited-file {f} {out} {a = a} {fault = fault} {e} whole h z =
     let written = writeOf (editOf (tableOf f) e) in
     let done = h .done z in
     let size = ap (λ l. getD l 0 0) (done .1) ∙ front a (length written) [] in
-    rw (size, done .0, front-put out written) (edit-of-file f e (edit-none f fault e out a (sym (h .code) ∙ z) .1) (h .shaped z))
+    rw (size, done .0, front-put out written) (edit-of-file f e whole (edit-none f fault e out a (sym (h .code) ∙ z)))

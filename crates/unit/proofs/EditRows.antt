@@ -1,64 +1,50 @@
--- Edits of a file for C in a row: each returns what the edit of the file's lines refuses, and leaves the file of the lines that it makes. Assumes nothing.
+-- Edits of a file for C in a row: read to tables, they are calls for the same edits of the file's table. And there are such calls for every list of edits,
+-- refused ones included. Assumes nothing.
 use mathlib.Core.Path.{_≡_, refl, sym, ap, _∙_}
 use mathlib.Core.Bool.{cond}
-use mathlib.Core.List.{List, [], _∷_}
+use mathlib.Core.List.{List, [], _∷_, List·Memᴰ, List·Memᴰ·head, List·Memᴰ·tail}
 use Prim.Native.Nat.{ℕ, _≤_}
 use native.Mathlib.Decide.{ℕ-discrete}
-use native.Mathlib.Omega.{arith}
-use borrow.Author.Tests.{eq-eqb, ne-eqb, le-leb}
+use borrow.Author.Tests.{eq-eqb, ne-eqb}
 use lib.Dec.{eqb}
 use lib.ListN.{length, getD, take}
 use Rattle.records.specs.Letters.{mostBytes}
-use Rattle.transducer.specs.Refusals.{firstOf}
-use Rattle.transducer.specs.Lines.{linesOf, transducerOf}
-use Rattle.transducer.specs.declared.StateSet.{StateSet}
-use Rattle.transducer.specs.declared.Transition.{Transition}
-use Rattle.transducer.specs.declared.Transducer.{Transducer}
-use Rattle.transducer.proofs.RefusalLaws.{this-one, none-then, no-more}
-use Rattle.transducer.proofs.AcceptedLaws.{accepted-valid}
-use Rattle.transducer.proofs.LineLaws.{made-lines, made-again}
+use Rattle.buffers.specs.Put.{put}
+use Rattle.transducer.specs.Lines.{linesOf}
+use Rattle.transducer.proofs.RefusalLaws.{none-then, only-one}
+use Rattle.tablereader.specs.Reader.{readOf}
+use Rattle.tablereader.proofs.Outcomes.{taken-record}
 use Rattle.tablereader.proofs.Validity.{read-accepted}
 use Rattle.tablereader.proofs.ReadLaws.{read-shaped}
 use Rattle.tablewriter.specs.File.{writeOf}
-use Rattle.tablewriter.specs.Writing.{shortFault}
-use Rattle.tablefile.proofs.RoundTrips.{round-trips}
-use Rattle.edits.specs.Edits.{Edit, lineRefusal, editLines, editOf}
-use Rattle.edits.specs.Rows.{afterEdit, afterEdits, refusalsOf}
-use Rattle.edits.proofs.RowLaws.{edit-accepted}
-use Rattle.engine.specs.Engine.{Taken, tableOf}
+use Rattle.edits.specs.Edits.{Edit, Whole, lineRefusal, editOf}
+use Rattle.edits.specs.Rows as row
+use Rattle.edits.specs.Rows.{Calls, afterEdits, refusalsOf}
+use Rattle.edits.proofs.RowLaws.{one-number, one-handed, in-a-row}
+use Rattle.edits.proofs.MadeLaws.{call-there}
+use Rattle.engine.specs.Engine.{recordOf, Taken, tableOf}
+use Rattle.editfiles.specs.Editing.{editNumber}
 use Rattle.editfiles.specs.Rack.{fileWith}
-use Rattle.editfiles.proofs.FileLaws.{parts-with, taken-with}
-use Rattle.answers.specs.Answers.{editAnswer}
+use Rattle.editfiles.proofs.FileLaws.{made-with, taken-written}
+use Rattle.editfiles.proofs.AnswerLaws.{full-number}
+use Rattle.answers.specs.Answers.{refusalCode, editAnswer}
 use Rattle.unit.specs.Calls.{editCode, EditGiven}
 use Rattle.unit.specs.Laws.{EditCalls, no-call, call, EditsOfLines}
-use Rattle.unit.proofs.Codes.{room, taken-code}
+use Rattle.unit.proofs.Codes.{room, no-record}
 use Rattle.unit.proofs.EditCalls.{edited-file}
 
 -- ---- one call
 
-module _ (f : List ℕ) (e : Edit) (taken : Taken f) where
-  abbrev refusal : ℕ
-  refusal = lineRefusal (tableOf f .states) (linesOf (tableOf f)) e
+-- with lists of the full sizes only the edit of the lines is refused
+code-is : (f : List ℕ) (e : Edit) (out a : List ℕ) → Taken f → mostBytes ≤ length out → editAnswer ≤ length a
+    → lineRefusal (tableOf f .states) (linesOf (tableOf f)) e ≡ editCode f 0 e out a
+unfolding editCode
+code-is f e out a taken full long =
+    let number = editNumber f 0 e out in
+    let no-file : refusalCode number (recordOf f) ≡ number = ap (refusalCode number) (taken-record (readOf f .outcome) taken) ∙ no-record number in
+    none-then _ (room _ _ _ long) (only-one (full-number f e out taken full ∙ sym no-file))
 
-  -- a buffer of the full size is not too short for the edited file
-  no-short : (out : List ℕ) → mostBytes ≤ length out → refusal ≡ 0 → 0 ≡ shortFault (editOf (tableOf f) e) out
-  unfolding shortFault
-  no-short out full none =
-      let t = tableOf f in
-      let most = round-trips .written-at-most (editOf t e) (edit-accepted t e (read-accepted f) none) in
-      let fits : length (writeOf (editOf t e)) ≤ length out = omega (arith, most) in
-      rw (le-leb (length (writeOf (editOf t e))) (length out) fits) refl
-
-  -- only the edit of the lines is refused
-  code-is : (out a : List ℕ) → mostBytes ≤ length out → editAnswer ≤ length a → refusal ≡ editCode f 0 e out a
-  unfolding editCode
-  code-is out a full long = none-then _ (room _ _ _ long) (none-then _ (taken-code f taken) (none-then _ refl (go (ℕ-discrete refusal 0))))
-    where
-      go : Dec (refusal ≡ 0) → refusal ≡ firstOf (refusal ∷ shortFault (editOf (tableOf f) e) out ∷ [])
-      go (yes z) = none-then _ z (z ∙ none-then _ (sym (no-short out full z)) no-more)
-      go (no n) = this-one _ refl n
-
-module _ {f out out′ a a′ : List ℕ} {e : Edit} {r : ℕ} (taken : Taken f) (full : mostBytes ≤ length out) (long : editAnswer ≤ length a)
+module _ {f out out′ a a′ : List ℕ} {e : Edit} {r : ℕ} (whole : Whole e) (taken : Taken f) (full : mostBytes ≤ length out) (long : editAnswer ≤ length a)
     (h : EditGiven f 0 e out out′ a a′ r)
   where
     -- the file for the next call
@@ -66,59 +52,88 @@ module _ {f out out′ a a′ : List ℕ} {e : Edit} {r : ℕ} (taken : Taken f)
     next = cond (eqb r 0) (take (getD a′ 0 0) out′) f
 
     returned : r ≡ lineRefusal (tableOf f .states) (linesOf (tableOf f)) e
-    returned = h .code ∙ sym (code-is f e taken out a full long)
+    returned = h .code ∙ sym (code-is f e out a taken full long)
 
     next-taken : Taken next
     next-taken = go (ℕ-discrete r 0)
       where
         go : Dec (r ≡ 0) → Taken next
-        go (yes z) = rw (eq-eqb r 0 z) (edited-file h z .taken)
+        go (yes z) = rw (eq-eqb r 0 z) (edited-file whole h z .taken)
         go (no n) = rw (ne-eqb r 0 n) taken
 
-    next-table : tableOf next ≡ transducerOf (tableOf f .states) (tableOf f .starts) (tableOf f .finals) (afterEdit (tableOf f .states) (linesOf (tableOf f)) e)
-    unfolding afterEdit editOf
+    -- its table is what a call for the edit hands over
+    next-table : tableOf next ≡ cond (eqb (lineRefusal (tableOf f .states) (linesOf (tableOf f)) e) 0) (editOf (tableOf f) e) (tableOf f)
     next-table = go (ℕ-discrete r 0)
       where
-        t : Transducer
-        t = tableOf f
-
-        go : Dec (r ≡ 0) → tableOf next ≡ transducerOf (t .states) (t .starts) (t .finals)
-            (cond (eqb (lineRefusal (t .states) (linesOf t) e) 0) (editLines (linesOf t) e) (linesOf t))
-        go (yes z) = rw (← returned, eq-eqb r 0 z) (edited-file h z .table)
-        go (no n) = rw (← returned, ne-eqb r 0 n) (sym (made-again t (accepted-valid t (read-accepted f)) (read-shaped f)))
+        go : Dec (r ≡ 0) → tableOf next ≡ cond (eqb (lineRefusal (tableOf f .states) (linesOf (tableOf f)) e) 0) (editOf (tableOf f) e) (tableOf f)
+        go (yes z) = rw (← returned, eq-eqb r 0 z) (edited-file whole h z .table)
+        go (no n) = rw (← returned, ne-eqb r 0 n) refl
 
 -- ---- any number of them
 
--- from a file whose table is made of these lines
-made-rows : (n : ℕ) (starts finals : StateSet) (lines : List Transition) {f f′ : List ℕ} {edits : List Edit} {returned : List ℕ}
-    → tableOf f ≡ transducerOf n starts finals lines → EditsOfLines f edits returned f′
-    → (returned ≡ refusalsOf n lines edits) × (f′ ≡ fileWith (transducerOf n starts finals lines) (afterEdits n lines edits))
-    × (tableOf f′ ≡ transducerOf n starts finals (afterEdits n lines edits))
-unfolding transducerOf
-made-rows n starts finals lines {edits = edits} e h =
-    let same = ap (λ t. t .states) e in
-    let own = ap linesOf e ∙ made-lines n starts finals lines in (
-      h .refusals ∙ (λ i. refusalsOf (same i) (own i) edits),
-      h .file ∙ (λ i. fileWith (e i) (afterEdits (same i) (own i) edits)),
-      h .table ∙ (λ i. transducerOf (same i) (e i .starts) (e i .finals) (afterEdits (same i) (own i) edits)),
-    )
+-- of tables they are calls for the same edits, and the file in the end is taken
+table-calls : {f f′ : List ℕ} {edits : List Edit} {returned : List ℕ} → Taken f → EditCalls f edits returned f′
+    → (Calls (tableOf f) edits returned (tableOf f′)) × (Taken f′)
+table-calls taken (no-call e) = (row.no-call (ap tableOf e), rw (← e) taken)
+table-calls {f} {f′} taken (call {e = e} {edits = edits} {returned = numbers} whole full long h rest) =
+    let accepted = read-accepted f in
+    let shaped = read-shaped f in
+    let one = call-there (tableOf f) e accepted shaped whole in
+    let more = table-calls (next-taken whole taken full long h) rest in
+    let same = one-handed accepted shaped (one .answers) ∙ sym (next-table whole taken full long h) in
+    let tables : Calls (one .answer .table) edits numbers (tableOf f′) = rw same (more .0) in
+    (row.call (one .answers) (returned whole taken full long h ∙ sym (one-number accepted shaped (one .answers))) tables, more .1)
 
 pub edit-rows : {f f′ : List ℕ} {edits : List Edit} {returned : List ℕ} → Taken f → EditCalls f edits returned f′ → EditsOfLines f edits returned f′
-unfolding afterEdits refusalsOf
-edit-rows {f} taken (no-call e) =
+edit-rows {f} {f′} {edits} taken calls =
+    let of-tables = table-calls taken calls in
+    let row = in-a-row (read-accepted f) (read-shaped f) (of-tables .0) in
     record {
-      refusals = refl;
-      file = sym e ∙ taken-with f taken;
-      taken = rw (← e) taken;
-      table = ap tableOf (sym e) ∙ sym (made-again (tableOf f) (accepted-valid (tableOf f) (read-accepted f)) (read-shaped f));
+      file = taken-written f′ (of-tables .1) ∙ ap writeOf (row .table) ∙ made-with (tableOf f) (afterEdits (tableOf f .states) (linesOf (tableOf f)) edits);
+      taken = of-tables .1;
+      row = row;
     }
-edit-rows {f} taken (call {e = e} full long h rest) =
-    let t = tableOf f in
-    let row = edit-rows (next-taken taken full long h) rest in
-    let made = made-rows (t .states) (t .starts) (t .finals) _ (next-table taken full long h) row in
-    record {
-      refusals = rw (returned taken full long h, made .0);
-      file = made .1 ∙ parts-with t _ _;
-      taken = row .taken;
-      table = made .2;
-    }
+
+-- ---- there are such calls
+
+module _ (out a : List ℕ) (full : mostBytes ≤ length out) (long : editAnswer ≤ length a) where
+  module _ (f : List ℕ) (e : Edit) where
+    abbrev written : List ℕ
+    written = writeOf (editOf (tableOf f) e)
+
+    abbrev code : ℕ
+    code = editCode f 0 e out a
+
+    abbrev out-left : List ℕ
+    out-left = cond (eqb code 0) (put out 0 written) out
+
+    abbrev answer-left : List ℕ
+    answer-left = cond (eqb code 0) (put a 0 (length written ∷ [])) a
+
+    given : EditGiven f 0 e out out-left a answer-left code
+    given =
+        record {
+          code = refl;
+          refused = λ n. let not-done = ne-eqb code 0 n in (rw not-done, rw not-done);
+          done = λ z. let done = eq-eqb code 0 z in (rw done, rw done);
+        }
+
+  record FileRow (f : List ℕ) (edits : List Edit) : Type 0 where
+    returned : List ℕ
+    last : List ℕ
+    calls : EditCalls f edits returned last
+
+  file-row : (f : List ℕ) (edits : List Edit) → Taken f → ((e : Edit) → List·Memᴰ e edits → Whole e) → FileRow f edits
+  file-row f [] taken whole = record { returned = []; last = f; calls = no-call refl }
+  file-row f (e ∷ edits) taken whole =
+      let one = whole e (List·Memᴰ·head refl) in
+      let more = file-row _ edits (next-taken one taken full long (given f e)) (λ e′ m. whole e′ (List·Memᴰ·tail m)) in
+      record { returned = code f e ∷ more .returned; last = more .last; calls = call one full long (given f e) (more .calls) }
+
+  pub edit-calls-there : (f : List ℕ) (edits : List Edit) → Taken f → ((e : Edit) → List·Memᴰ e edits → Whole e)
+      → EditCalls f edits (refusalsOf (tableOf f .states) (linesOf (tableOf f)) edits)
+      (fileWith (tableOf f) (afterEdits (tableOf f .states) (linesOf (tableOf f)) edits))
+  edit-calls-there f edits taken whole =
+      let there = file-row f edits taken whole in
+      let lines = edit-rows taken (there .calls) in
+      rw (lines .row .refusals, lines .file) at (there .calls)

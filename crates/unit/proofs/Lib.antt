@@ -7,5 +7,5 @@ mod FileCalls
 mod AlikeCalls
 mod JoinCalls
 mod EditCalls
-mod EditRows
+pub mod EditRows
 pub mod Boundary

@@ -11,23 +11,21 @@ use Rattle.buffers.specs.Put.{put}
 use Rattle.transducer.specs.Limits.{mostStates}
 use Rattle.transducer.specs.Refusals.{tooShort, answerTooShort, firstOf}
 use Rattle.transducer.specs.Transition.{wordOf, outputWordOf}
-use Rattle.transducer.specs.Valid.{Shaped}
-use Rattle.transducer.specs.Lines.{linesOf}
 use Rattle.transducer.specs.Paths.{Relates}
 use Rattle.transducer.specs.Useful.{UsefulState, UsefulPair}
 use Rattle.tablewriter.specs.File.{writeOf}
-use Rattle.tablewriter.specs.Writing.{shortFault}
-use Rattle.edits.specs.Edits.{Edit, lineRefusal, editOf}
+use Rattle.edits.specs.Edits.{Edit, editOf}
 use Rattle.product.specs.Numbers as pair
 use Rattle.product.specs.Numbers.{mostPairs}
 use Rattle.wordtest.specs.Words.{refusalOf}
 use Rattle.witness.specs.Showing.{Buffers}
 use Rattle.functionality.specs.Decided.{fullOf, UsefulCount}
-use Rattle.engine.specs.Engine.{tableOf, Judged, FileTranslated}
+use Rattle.engine.specs.Engine.{recordOf, tableOf, Judged, FileTranslated}
 use Rattle.engine.specs.declared.Judgement.{Judgement}
 use Rattle.engine.specs.declared.FileTranslation.{FileTranslation}
 use Rattle.joinfiles.specs.Joining.{FilesJoined}
 use Rattle.joinfiles.specs.declared.FileJoin.{FileJoin}
+use Rattle.editfiles.specs.Editing.{editNumber}
 use Rattle.answers.specs.Answers.{refusalCode, fileCode, joinCode, roomFault, flagOf, kindOf, numbersOf}
 use Rattle.answers.specs.Answers.{verdictAnswer, translateAnswer, acceptsAnswer, pairsAnswer, differenceAnswer, writeAnswer, joinAnswer, editAnswer}
 
@@ -157,18 +155,13 @@ pub record JoinGiven (f g out out′ a a′ : List ℕ) (r : ℕ) : Type 0 where
 
 -- ---- a file, edited by one line
 
--- refused are, in this order, an answer list that is too short, the file, what is wrong with the line as it is handed over, the edit of the file's lines,
--- fewer places than the edited file has bytes
+-- refused are, in this order, an answer list that is too short, what the edit of the file refuses: the file, at a record, what is wrong with the line as it
+-- is handed over, the edit of the file's lines, the buffer
 unfoldable pub editCode : List ℕ → ℕ → Edit → List ℕ → List ℕ → ℕ
-editCode f fault e out a =
-    firstOf
-    (roomFault editAnswer a answerTooShort ∷ fileCode f ∷ fault ∷ lineRefusal (tableOf f .states) (linesOf (tableOf f)) e
-    ∷ shortFault (editOf (tableOf f) e) out ∷ [])
+editCode f fault e out a = firstOf (roomFault editAnswer a answerTooShort ∷ refusalCode (editNumber f fault e out) (recordOf f) ∷ [])
 
 -- what `yotselina_append` and `yotselina_remove` return and leave: the file of the edited table, and how many bytes it has
 pub record EditGiven (f : List ℕ) (fault : ℕ) (e : Edit) (out out′ a a′ : List ℕ) (r : ℕ) : Type 0 where
   pub code : r ≡ editCode f fault e out a
   pub refused : r ≢ 0 → (out′ ≡ out) × (a′ ≡ a)
   pub done : r ≡ 0 → (out′ ≡ put out 0 (writeOf (editOf (tableOf f) e))) × (a′ ≡ put a 0 (length (writeOf (editOf (tableOf f) e)) ∷ []))
-  -- the arrays of the edited table have their lengths
-  pub shaped : r ≡ 0 → Shaped (editOf (tableOf f) e)

@@ -1,6 +1,7 @@
 -- What holds of any results that meet the contracts of specs/Calls.antt: a refusal's number and record can be told from what is returned; what is
 -- returned and left is determined, but for what document 01 leaves open; files whose tables are alike are answered alike; the word test agrees with
--- the translation; a joined file is one of the two tables in series; and edited files are those of the edited lines. `boundary` of proofs/Boundary.antt proves it.
+-- the translation; a joined file is one of the two tables in series; and edited files are those of the edited lines. `boundary` of
+-- proofs/Boundary.antt proves it.
 use mathlib.Core.Path.{_≡_}
 use mathlib.Core.Bool.{cond}
 use mathlib.Core.List.{List, [], _∷_}
@@ -9,11 +10,11 @@ use Prim.Native.Nat.{ℕ, _≤_, _<_, _/_, _%_}
 use lib.Dec.{eqb}
 use lib.ListN.{length, getD, take}
 use Rattle.records.specs.Letters.{mostBytes}
-use Rattle.transducer.specs.Lines.{linesOf, transducerOf}
+use Rattle.transducer.specs.Lines.{linesOf}
 use Rattle.transducer.specs.Paths.{Functional}
 use Rattle.transducer.specs.Alike.{Alike}
-use Rattle.edits.specs.Edits.{Edit}
-use Rattle.edits.specs.Rows.{afterEdits, refusalsOf}
+use Rattle.edits.specs.Edits.{Edit, Whole}
+use Rattle.edits.specs.Rows.{afterEdits, InARow}
 use Rattle.editfiles.specs.Rack.{fileWith, EditOfFile}
 use Rattle.wordsearch.specs.Limits.{mostWritten}
 use Rattle.witness.specs.Showing.{Buffers}
@@ -49,18 +50,17 @@ pub record SameTranslation (out₁ out₂ a₁ a₂ : List ℕ) (r₁ r₂ : ℕ
 -- same file again, return these numbers, and f′ is the file in the end. A line that is appended is handed over in all its places
 pub data EditCalls : List ℕ → List Edit → List ℕ → List ℕ → Type 0 where
   no-call : {f f′ : List ℕ} → f ≡ f′ → EditCalls f [] [] f′
-  call : {f f′ out out′ a a′ : List ℕ} {e : Edit} {edits : List Edit} {r : ℕ} {returned : List ℕ} → mostBytes ≤ length out → editAnswer ≤ length a
-      → EditGiven f 0 e out out′ a a′ r → EditCalls (cond (eqb r 0) (take (getD a′ 0 0) out′) f) edits returned f′
+  call : {f f′ out out′ a a′ : List ℕ} {e : Edit} {edits : List Edit} {r : ℕ} {returned : List ℕ} → Whole e → mostBytes ≤ length out
+      → editAnswer ≤ length a → EditGiven f 0 e out out′ a a′ r → EditCalls (cond (eqb r 0) (take (getD a′ 0 0) out′) f) edits returned f′
       → EditCalls f (e ∷ edits) (r ∷ returned) f′
 
 -- what they return and leave is what the same edits make of the file's lines
 pub record EditsOfLines (f : List ℕ) (edits : List Edit) (returned f′ : List ℕ) : Type 0 where
-  pub refusals : returned ≡ refusalsOf (tableOf f .states) (linesOf (tableOf f)) edits
+  -- the file in the end, byte for byte
   pub file : f′ ≡ fileWith (tableOf f) (afterEdits (tableOf f .states) (linesOf (tableOf f)) edits)
-  -- the reader takes it, and reads it to the table with these lines
+  -- the reader takes it; what is returned are the refusals of the edits, and what is read is the table with their lines
   pub taken : Taken f′
-  pub table : tableOf f′
-      ≡ transducerOf (tableOf f .states) (tableOf f .starts) (tableOf f .finals) (afterEdits (tableOf f .states) (linesOf (tableOf f)) edits)
+  pub row : InARow (tableOf f) edits returned (tableOf f′)
 
 -- the laws of the exported functions
 pub record Boundary : Type 0 where
@@ -113,7 +113,7 @@ pub record Boundary : Type 0 where
   pub edit : {f out out₁ out₂ a a₁ a₂ : List ℕ} {fault : ℕ} {e : Edit} {r₁ r₂ : ℕ} → EditGiven f fault e out out₁ a a₁ r₁
       → EditGiven f fault e out out₂ a a₂ r₂ → (r₁ ≡ r₂) × (out₁ ≡ out₂) × (a₁ ≡ a₂)
   -- document 02, job 6, from bytes to bytes: what is written is the file with the edited lines, which the reader takes and reads to the edited table
-  pub edited-file : {f out out′ a a′ : List ℕ} {fault : ℕ} {e : Edit} {r : ℕ} → EditGiven f fault e out out′ a a′ r → r ≡ 0
+  pub edited-file : {f out out′ a a′ : List ℕ} {fault : ℕ} {e : Edit} {r : ℕ} → Whole e → EditGiven f fault e out out′ a a′ r → r ≡ 0
       → EditOfFile f e (take (getD a′ 0 0) out′)
   -- and over every list of the two calls, refused ones included
   pub edits : {f f′ : List ℕ} {edits : List Edit} {returned : List ℕ} → Taken f → EditCalls f edits returned f′ → EditsOfLines f edits returned f′
