@@ -1,6 +1,6 @@
 -- Files whose tables are alike are answered alike by the verdict and the translation for C. It follows from demand 3, which says it of the judgement and
 -- the translation that they answer with. Assumes nothing.
-use mathlib.Core.Path.{_≡_, refl, sym, ap, _∙_}
+use mathlib.Core.Path.{_≡_, sym, ap, _∙_}
 use mathlib.Core.Bool.{cond}
 use mathlib.Core.List.{List, [], _∷_}
 use Prim.Native.Nat.{ℕ, _≤_}
