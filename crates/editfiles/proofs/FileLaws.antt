@@ -2,12 +2,15 @@
 use mathlib.Core.Path.{_≡_, refl, sym, ap, _∙_}
 use mathlib.Core.List.{List}
 use Prim.Native.Nat.{ℕ}
+use Rattle.transducer.specs.Limits.{mostOutputs}
 use Rattle.transducer.specs.Lines.{linesOf, transducerOf}
 use Rattle.transducer.specs.declared.Transition.{Transition}
 use Rattle.transducer.specs.declared.Transducer.{Transducer}
+use Rattle.transducer.proofs.SizeLaws.{length-firsts}
 use Rattle.transducer.proofs.AcceptedLaws.{accepted-valid}
 use Rattle.transducer.proofs.LineLaws.{lines-long, made-lines}
 use Rattle.tablereader.specs.Reader.{readOf}
+use Rattle.tablereader.specs.Transitions.{codeOf, transitionOf}
 use Rattle.tablereader.specs.Outcome as outcome
 use Rattle.tablereader.specs.declared.Reading.{Reading}
 use Rattle.tablereader.proofs.Outcomes.{taken-number}
@@ -15,7 +18,7 @@ use Rattle.tablereader.proofs.Validity.{read-accepted}
 use Rattle.tablereader.proofs.ReadLaws.{read-shaped}
 use Rattle.tablewriter.specs.File.{transitionBytesBelow, headerBytes, writeOf}
 use Rattle.tablefile.proofs.RoundTrips.{round-trips}
-use Rattle.edits.specs.Edits.{Edit, Whole, lineRefusal, editLines, editOf}
+use Rattle.edits.specs.Edits.{Edit, append, Whole, with-line, lineRefusal, editLines, editOf}
 use Rattle.edits.proofs.RowLaws.{edit-accepted, edit-shaped}
 use Rattle.engine.specs.Engine.{Taken, tableOf}
 use Rattle.editfiles.specs.Rack.{fileWith, EditOfFile}
@@ -48,6 +51,11 @@ taken-written f taken = sym (round-trips .written-read f (taken-number (readOf f
 -- and so that of its table's lines
 pub taken-with : (f : List ℕ) → Taken f → f ≡ fileWith (tableOf f) (linesOf (tableOf f))
 taken-with f taken = taken-written f taken ∙ written-with (tableOf f)
+
+-- a line that is handed over as numbers has all its places
+pub line-whole : (line : List ℕ) → Whole (append (transitionOf line))
+unfolding transitionOf
+line-whole line = with-line (transitionOf line) refl (length-firsts mostOutputs (codeOf line))
 
 -- an edit that is not refused, of a file that is taken
 pub edit-of-file : (f : List ℕ) (e : Edit) → Whole e → lineRefusal (tableOf f .states) (linesOf (tableOf f)) e ≡ 0
