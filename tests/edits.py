@@ -7,7 +7,7 @@ import cases
 import generate
 import lines
 import reference
-from boundary import SOME_TABLES, as_note, check, same_refusal, written_by
+from boundary import as_note, check, same_refusal, written_by
 from cases import LINE, header, table
 from compare import randomness, size_name
 from library import Library, build
@@ -19,6 +19,7 @@ from workers import spread
 
 GROUP = "edits"
 ITSELF = "reference itself, edits"
+SOME_TABLES = 8  # for one table of a kind in so many, a list of edits
 LENGTH = 40  # edits of a list
 LISTS = 5  # lists from each named table
 MANY = 40  # lines: of a table with fewer, verdict and translations are asked for after each edit of a list
