@@ -1,2 +1,3 @@
 -- How flags are cast.
 pub mod Flags
+pub mod Rooms

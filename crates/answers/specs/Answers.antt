@@ -1,12 +1,15 @@
 -- The numbers that an exported function returns, and those that it puts into lists.
 use mathlib.Core.Path.{_≡_}
 use mathlib.Core.Bool.{Bool, true, false, cond}
-use mathlib.Core.List.{List, [], _∷_}
+use mathlib.Core.List.{List, [], _∷_, map}
 use mathlib.Core.Logic.{_≢_}
 use Prim.Native.Nat.{ℕ, _+_, _*_}
 use lib.Dec.{ltb}
 use lib.ListN.{length}
 use Rattle.buffers.specs.Put.{put}
+use Rattle.transducer.specs.Limits.{mostStates}
+use Rattle.transducer.specs.Refusals.{tooShort}
+use Rattle.transducer.specs.declared.StateSet.{StateSet}
 use Rattle.words.specs.declared.Comparison.{Comparison}
 use Rattle.words.specs.declared.Comparison.the-variants.{Level, FirstAhead, SecondAhead, Clash}
 use Rattle.engine.specs.Engine.{numberOf, recordOf}
@@ -103,3 +106,9 @@ pub record JoinEnded (j : FileJoin) (a a′ : List ℕ) (r : ℕ) : Type 0 where
   pub code : r ≡ joinCode j
   pub refused : j .number ≢ 0 → a′ ≡ a
   pub answered : j .number ≡ 0 → a′ ≡ put a 0 (j .length ∷ [])
+
+-- a call that shows a set of states ends so: mostStates flags stand at the front of the list, unless it has fewer places
+pub record StatesEnded (s : StateSet) (flags flags′ : List ℕ) (r : ℕ) : Type 0 where
+  pub code : r ≡ roomFault mostStates flags tooShort
+  pub refused : r ≢ 0 → flags′ ≡ flags
+  pub shown : r ≡ 0 → flags′ ≡ put flags 0 (map flagOf (s .member))

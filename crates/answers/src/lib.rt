@@ -5,10 +5,13 @@ ghost use Prim.Native.Nat.{_≤_, _<_};
 ghost use lib.ListN.{length};
 ghost use Rattle.buffers.specs.Put.{put};
 ghost use Rattle.tablereader.specs.Outcome.{numberOf, recordOf};
-ghost use Rattle.answers.specs.Answers.{refusalCode, recordsTold, verdictAnswer, joinAnswer, flagOf, kindOf, numbersOf, Given, JoinEnded};
+ghost use Rattle.answers.specs.Answers.{refusalCode, recordsTold, verdictAnswer, joinAnswer, flagOf, kindOf, numbersOf, Given, JoinEnded, StatesEnded};
 use engine::Judgement;
 use joinfiles::FileJoin;
 use tablereader::Outcome;
+use transducer::StateSet;
+use transducer::limits;
+use transducer::refusals;
 use words::Comparison;
 
 // How many numbers the answer to a verdict has: split, u and five counts.
@@ -111,6 +114,18 @@ pub fn put_numbers(list: &mut [u64], numbers: &[u64])
         list[i] = numbers[i];
         i += 1;
     }
+}
+
+// Ends a call that shows a set of states: a flag for each of limits::STATES states at the front of `flags`, or the refusal of a list that has fewer places.
+pub fn give_states(flags: &mut [u8], states: StateSet) -> u32
+    ensures { λ r. ⌜ StatesEnded states (now (flags .entry)) (now (flags .exit)) r ⌝ }
+{
+    if flags.len() < limits::STATES {
+        return refusals::TOO_SHORT as u32;
+    }
+    let member = states.member;
+    put_flags(flags, &member);
+    0
 }
 
 // Puts flags to the front of a list, 1 for true and 0 for false.

@@ -17,7 +17,6 @@ use Rattle.tablereader.specs.Reader.{readOf}
 use Rattle.tablereader.specs.declared.Reading.{Reading}
 use Rattle.tablereader.proofs.Outcomes.{taken-record}
 use Rattle.tablereader.proofs.Validity.{read-accepted}
-use Rattle.tablereader.proofs.ReadLaws.{read-shaped}
 use Rattle.tablewriter.specs.Writing as wrote
 use Rattle.tablewriter.specs.Writing.{shortFault, Wrote}
 use Rattle.tablewriter.specs.declared.Writing.{Writing}
@@ -79,13 +78,13 @@ module _ (f : List ℕ) (fault : ℕ) (e : Edit) (out : List ℕ) where
   edit-written {edited} {out′} {r} t none h w = go (ℕ-discrete (edits.numberOf (edited .outcome)) 0)
     where
       number : edits.numberOf (edited .outcome) ≡ lineRefusal (tableOf f .states) (linesOf (tableOf f)) e
-      number = one-number (read-accepted f) (read-shaped f) h
+      number = one-number (read-accepted f) h
 
       go : Dec (edits.numberOf (edited .outcome) ≡ 0) → FileEdited f fault e out out′ r
       go (yes z) =
           let taken = sym number ∙ z in
           let answers = w .done z in
-          let table = one-done (read-accepted f) (read-shaped f) h taken in
+          let table = one-done (read-accepted f) h taken in
           let wrote = wrote-accepted (edit-accepted (tableOf f) e (read-accepted f) taken) (rw table at (answers .writes)) in
           rw (answers .answer)
           (record {

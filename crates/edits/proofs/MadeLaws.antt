@@ -83,7 +83,7 @@ row-there t [] accepted shaped whole = record { numbers = []; last = t; calls = 
 row-there t (e ∷ edits) accepted shaped whole =
     let one = call-there t e accepted shaped (whole e (List·Memᴰ·head refl)) in
     let more =
-    row-there (one .answer .table) edits (one-accepted accepted shaped (one .answers)) (one .answers .shaped) (λ e′ m. whole e′ (List·Memᴰ·tail m))
+    row-there (one .answer .table) edits (one-accepted accepted (one .answers)) (one .answers .shaped) (λ e′ m. whole e′ (List·Memᴰ·tail m))
     in
     record { numbers = numberOf (one .answer .outcome) ∷ more .numbers; last = more .last; calls = call (one .answers) refl (more .calls) }
 

@@ -11,16 +11,17 @@ use Rattle.transducer.specs.Limits.{mostTransitions}
 use Rattle.transducer.specs.Transition.{at, outside}
 use Rattle.transducer.specs.Blank.{clearTransition}
 use Rattle.transducer.specs.Valid.{Valid, Shaped}
-use Rattle.transducer.specs.Lines.{linesOf, without, appended, removed}
+use Rattle.transducer.specs.Lines.{linesOf, keeping, without, appended, removed}
 use Rattle.transducer.specs.declared.Transition.{Transition}
 use Rattle.transducer.specs.declared.Transducer.{Transducer}
 use Rattle.transducer.proofs.Bools.{le-or-lt}
 use Rattle.transducer.proofs.LineLaws.{lines-long, line-at, clear-same, made-of}
 use Rattle.transducer.proofs.RemovalLaws.{without-long, without-before, without-after}
 
--- t with other transitions, and so many of them in use
+-- t with other transitions, and so many of them in use; the set that it keeps is the old one
 abbrev pub withPlaces : Transducer → ℕ → List Transition → Transducer
-withPlaces t count transitions = record { states = t .states; starts = t .starts; finals = t .finals; count = count; transitions = transitions }
+withPlaces t count transitions =
+    record { states = t .states; starts = t .starts; finals = t .finals; count = count; transitions = transitions; useful = t .useful }
 
 module _ (t : Transducer) (valid : Valid t) (shaped : Shaped t) where
   -- a place that is not in use is clear
@@ -28,7 +29,7 @@ module _ (t : Transducer) (valid : Valid t) (shaped : Shaped t) where
   clear-place l h k = clear-same (at t l) (valid .beyond-clear l h k) (shaped .outputs l k)
 
   -- v in the first place that is not in use
-  pub placed-last : (v : Transition) → t .count < mostTransitions → withPlaces t (t .count + 1) (set (t .transitions) (t .count) v) ≡ appended t v
+  pub placed-last : (v : Transition) → t .count < mostTransitions → keeping (withPlaces t (t .count + 1) (set (t .transitions) (t .count) v)) ≡ appended t v
   placed-last v room =
       made-of t′ lines (omega (arith, long)) (sym long) (length-set (t .transitions) (t .count) v ∙ shaped .transitions)
       (λ l h. ⊎-elim
@@ -87,7 +88,7 @@ one-moved {l} {i} {before} {after} room m =
 module _ (t : Transducer) (valid : Valid t) (shaped : Shaped t) where
   -- the lines after line l moved down one, and the place of the last cleared
   pub closed-up : {l i last : ℕ} {after : List Transition} → i ≡ last → last + 1 ≡ t .count → l < t .count → MovedTo l i (t .transitions) after
-      → withPlaces t last (set after last clearTransition) ≡ removed t l
+      → keeping (withPlaces t last (set after last clearTransition)) ≡ removed t l
   closed-up {l} {i} {last} {after} all e below m =
       made-of t′ lines (omega (arith, long, few)) (omega (arith, long)) (length-set after last clearTransition ∙ m .long)
       (λ j h. getD-set-other after last j clearTransition outside (λ z. omega (arith, long)) ∙ at-place j (omega (arith, long)))

@@ -9,6 +9,7 @@ use borrow.Author.Tests.{eq-eqb, ne-eqb, ltb-true}
 use lib.Dec.{eqb, ltb}
 use lib.ListN.{length}
 use Rattle.transducer.specs.Limits.{mostTransitions}
+use Rattle.transducer.specs.Refusals.{invalid}
 use Rattle.transducer.specs.Valid.{lineOf, Valid, Shaped}
 use Rattle.transducer.specs.Accepted.{acceptedOf}
 use Rattle.transducer.specs.Lines.{linesOf, transducerOf}
@@ -16,9 +17,9 @@ use Rattle.transducer.specs.declared.StateSet.{StateSet}
 use Rattle.transducer.specs.declared.Transition.{Transition}
 use Rattle.transducer.specs.declared.Transducer.{Transducer}
 use Rattle.transducer.proofs.Facts.{line-exactly}
-use Rattle.transducer.proofs.RefusalLaws.{no-fault, none-of}
-use Rattle.transducer.proofs.AcceptedLaws.{accepted-valid, valid-accepted}
-use Rattle.transducer.proofs.LineLaws.{lines-long, made-lines, made-again, appended-valid, appended-shaped}
+use Rattle.transducer.proofs.RefusalLaws.{this-one, no-fault, none-of}
+use Rattle.transducer.proofs.AcceptedLaws.{accepted-valid, made-again, made-kept}
+use Rattle.transducer.proofs.LineLaws.{lines-long, made-lines, appended-valid, appended-shaped}
 use Rattle.transducer.proofs.RemovalLaws.{removed-valid, removed-shaped}
 use Rattle.edits.specs.Edits.{Edit, append, remove, Whole, with-line, with-number, lineRefusal, editLines, refusalOf, editOf, numberOf, EditedBy}
 use Rattle.edits.specs.Rows.{Calls, no-call, call, afterEdit, afterEdits, refusalsOf, InARow}
@@ -49,7 +50,8 @@ edit-valid t (remove l) h z =
 
 -- and so is accepted
 pub edit-accepted : (t : Transducer) (e : Edit) → acceptedOf t ≡ true → lineRefusal (t .states) (linesOf t) e ≡ 0 → acceptedOf (editOf t e) ≡ true
-edit-accepted t e accepted z = valid-accepted (editOf t e) (edit-valid t e (accepted-valid t accepted) z)
+unfolding editOf
+edit-accepted t e accepted z = made-kept (t .states) (t .starts) (t .finals) (editLines (linesOf t) e) (edit-valid t e (accepted-valid t accepted) z)
 
 -- and its arrays have their lengths
 pub edit-shaped : (t : Transducer) (e : Edit) → Valid t → Shaped t → Whole e → lineRefusal (t .states) (linesOf t) e ≡ 0 → Shaped (editOf t e)
@@ -62,7 +64,14 @@ edit-shaped t e h s (with-number l same) z =
 
 -- ---- one call
 
-module _ {t : Transducer} {e : Edit} {r : Edited} (accepted : acceptedOf t ≡ true) (shaped : Shaped t) (h : EditedBy t e r) where
+-- of a transducer that is not accepted: 8, and the transducer handed back
+pub one-refused : {t : Transducer} {e : Edit} {r : Edited} → acceptedOf t ≡ false → EditedBy t e r → (numberOf (r .outcome) ≡ invalid) × (r .table ≡ t)
+unfolding refusalOf
+one-refused {t} {e} a h =
+    let number : invalid ≡ refusalOf t e = this-one _ (rw a refl) (λ z. omega arith) in
+    (h .number ∙ sym number, h .table ∙ rw (ne-eqb (refusalOf t e) 0 (λ z. omega (arith, number))) refl)
+
+module _ {t : Transducer} {e : Edit} {r : Edited} (accepted : acceptedOf t ≡ true) (h : EditedBy t e r) where
   abbrev refusal : ℕ
   refusal = lineRefusal (t .states) (linesOf t) e
 
@@ -80,14 +89,14 @@ module _ {t : Transducer} {e : Edit} {r : Edited} (accepted : acceptedOf t ≡ t
   one-done z = one-handed ∙ rw (eq-eqb refusal 0 z) refl
 
   -- and hands over what that makes
-  one-table : r .table ≡ transducerOf (t .states) (t .starts) (t .finals) (afterEdit (t .states) (linesOf t) e)
+  one-table : Shaped t → r .table ≡ transducerOf (t .states) (t .starts) (t .finals) (afterEdit (t .states) (linesOf t) e)
   unfolding editOf afterEdit
-  one-table = one-handed ∙ go (eqb refusal 0)
+  one-table shaped = one-handed ∙ go (eqb refusal 0)
     where
       go : (x : Bool) → cond x (transducerOf (t .states) (t .starts) (t .finals) (editLines (linesOf t) e)) t
           ≡ transducerOf (t .states) (t .starts) (t .finals) (cond x (editLines (linesOf t) e) (linesOf t))
       go true = refl
-      go false = sym (made-again t (accepted-valid t accepted) shaped)
+      go false = sym (made-again t accepted shaped)
 
   pub one-accepted : acceptedOf (r .table) ≡ true
   one-accepted = rw one-handed (go (ℕ-discrete refusal 0))
@@ -114,15 +123,15 @@ unfolding afterEdits refusalsOf
 in-a-row {t} accepted shaped (no-call e) =
     record {
       refusals = refl;
-      table = sym (made-again t (accepted-valid t accepted) shaped ∙ e);
+      table = sym (made-again t accepted shaped ∙ e);
       accepted = rw (← e) accepted;
       shaped = rw (← e) shaped;
     }
 in-a-row {t} accepted shaped (call {edits = edits} h number rest) =
-    let row = in-a-row (one-accepted accepted shaped h) (h .shaped) rest in
-    let made = made-row (t .states) (t .starts) (t .finals) _ (one-table accepted shaped h) row in
+    let row = in-a-row (one-accepted accepted h) (h .shaped) rest in
+    let made = made-row (t .states) (t .starts) (t .finals) _ (one-table accepted h shaped) row in
     record {
-      refusals = λ i. (number ∙ one-number accepted shaped h) i ∷ made .0 i;
+      refusals = λ i. (number ∙ one-number accepted h) i ∷ made .0 i;
       table = made .1;
       accepted = row .accepted;
       shaped = row .shaped;

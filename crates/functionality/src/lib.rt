@@ -78,7 +78,7 @@ pub fn decide(
         r
         ⌝ }
 {
-    if !transducer::accepted(t) {
+    if !useful::accepted(t) {
         return quiet(Outcome::Invalid, 0);
     }
     if !full(

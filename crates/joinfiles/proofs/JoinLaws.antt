@@ -17,7 +17,6 @@ use Rattle.transducer.specs.Refusals.{firstOf}
 use Rattle.transducer.specs.Alike.{Alike}
 use Rattle.transducer.specs.declared.Transducer.{Transducer}
 use Rattle.transducer.proofs.RefusalLaws.{no-more, none-of, others-same, first-below}
-use Rattle.transducer.proofs.AcceptedLaws.{valid-accepted}
 use Rattle.tablereader.specs.Outcome as outcome
 use Rattle.tablereader.specs.Reader.{readOf}
 use Rattle.tablereader.specs.declared.Reading.{Reading}
@@ -105,7 +104,7 @@ module _ {f g out out′ : List ℕ} {r : FileJoin} (h : FilesJoined f g out out
   file-read : readOf (take (r .length) out′) ≡ takenAs (h .joined .table)
   file-read =
       rw file-stands
-      (round-trips .read-written (h .joined .table) (valid-accepted _ (in-series joined-of .valid)) (joined-shaped joined-of (read-shaped g)))
+      (round-trips .read-written (h .joined .table) (in-series joined-of .accepted) (joined-shaped joined-of (read-shaped g)))
 
   pub file-joined : tableOf (take (r .length) out′) ≡ h .joined .table
   file-joined = ap (λ (x : Reading). x .table) file-read

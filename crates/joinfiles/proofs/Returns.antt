@@ -9,7 +9,6 @@ use lib.ListN.{length}
 use Rattle.transducer.specs.Refusals.{firstOf}
 use Rattle.transducer.specs.Blank.{blankTransducer}
 use Rattle.transducer.proofs.RefusalLaws.{this-one, none-then, only-one}
-use Rattle.transducer.proofs.AcceptedLaws.{valid-accepted}
 use Rattle.tablereader.specs.Reader.{readOf}
 use Rattle.tablereader.specs.declared.Reading.{Reading}
 use Rattle.tablereader.proofs.Outcomes.{taken-record}
@@ -101,7 +100,7 @@ module _ (f g : List ℕ) {out : List ℕ} {joined : Joined} (t : Taken f) (t′
   pub join-written : {r : FileJoin} {out′ : List ℕ} {w : Writing} → join.numberOf (joined .outcome) ≡ 0 → Wrote (joined .table) out out′ w
       → r ≡ answeredBy w → FilesJoined f g out out′ r
   join-written {w = w} z writes e =
-      let wrote = wrote-accepted (valid-accepted (joined .table) (in-series h .valid)) writes in
+      let wrote = wrote-accepted (in-series h .accepted) writes in
       rw e
       (record {
         joined = joined;

@@ -82,7 +82,7 @@ impl PairSet {
 pub fn useful_pairs(t: Transducer) -> UsefulPairs
     ensures { λ r. ⌜ UsefulPairsOf t r ⌝ }
 {
-    if !transducer::accepted(t) {
+    if !useful::accepted(t) {
         let none = PairSet::empty();
         return UsefulPairs {
             outcome: Outcome::Invalid,

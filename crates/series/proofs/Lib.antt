@@ -7,6 +7,7 @@ pub mod RuleLaws
 pub mod Composition
 pub mod RefusalLaws
 pub mod SeriesLaws
+pub mod ThereLaws
 pub mod AlikeLaws
 pub mod ListLaws
 pub mod TestLaws

@@ -1,21 +1,23 @@
--- The transducer of pairs keeps the rules, and its arrays have their lengths. Assumes nothing.
+-- The transducer of pairs is accepted, and its arrays have their lengths. Assumes nothing.
 use mathlib.Core.Path.{_≡_, refl}
-use mathlib.Core.Bool.{Bool}
+use mathlib.Core.Bool.{Bool, true}
 use Prim.Native.Nat.{ℕ, _≤_, _<_}
 use native.Mathlib.Omega.{arith}
 use lib.ListN.{length, length-replicate}
 use Rattle.transducer.specs.Limits.{mostStates, mostTransitions, mostOutputs}
 use Rattle.transducer.specs.Blank.{clearTransition}
 use Rattle.transducer.specs.Valid.{Used, Valid, Shaped, allBelow, usedOf, codesOf, codeOf}
+use Rattle.transducer.specs.Accepted.{acceptedOf}
 use Rattle.transducer.specs.declared.OutputCode.{OutputCode}
 use Rattle.transducer.specs.declared.Transition.{Transition}
 use Rattle.transducer.specs.declared.Transducer.{Transducer}
 use Rattle.transducer.proofs.Facts.{used-facts}
-use Rattle.transducer.proofs.LineLaws.{made-valid, made-shaped}
+use Rattle.transducer.proofs.LineLaws.{made-shaped}
+use Rattle.transducer.proofs.AcceptedLaws.{accepted-valid, made-accepted}
 use Rattle.product.specs.Numbers.{mostPairs, firstOf, secondOf}
 use Rattle.joints.specs.Joint.{after}
 use Rattle.joints.proofs.JointLaws.{Side, rests, takes, side-below, joint-sides}
-use Rattle.series.specs.Result.{pairs, taken, entered, lines, pairTransducer}
+use Rattle.series.specs.Result.{pairs, bothIn, taken, entered, lines, pairTransducer}
 use Rattle.series.proofs.StateLaws.{state-less}
 use Rattle.series.proofs.ResultLaws.{StepOf, line-step, set-below, set-long}
 
@@ -51,10 +53,11 @@ side-long v s (takes {l = l} k) = s .outputs l (omega (arith, k .used, v .few-tr
 module _ (first second : Transducer) (joined : ℕ → Bool) (few : length (pairs joined) ≤ mostStates)
     (few-lines : length (lines first second joined) ≤ mostTransitions) (valid′ : Valid second) where
   -- where there is a joined pair
-  pub pairs-valid : Valid first → 1 ≤ length (pairs joined) → Valid (pairTransducer first second joined)
+  pub pairs-accepted : Valid first → 1 ≤ length (pairs joined) → acceptedOf (pairTransducer first second joined) ≡ true
   unfolding pairTransducer
-  pairs-valid valid some =
-      made-valid _ _ _ (lines first second joined) .1
+  pairs-accepted valid some =
+      made-accepted (length (pairs joined)) (bothIn joined (first .starts) (second .starts)) (bothIn joined (first .finals) (second .finals))
+      (lines first second joined) .1
       (record {
         some-state = some;
         few-states = few;
@@ -74,6 +77,9 @@ module _ (first second : Transducer) (joined : ℕ → Bool) (few : length (pair
           (both-used _ _ (state-less joined (s .v) mostPairs (s .steps .from-joined) low)
           (state-less joined (entered first second (s .v) (s .a) (s .b)) mostPairs (s .steps .to-joined) (omega arith))
           (side-kept valid (sides .0) .used) (side-kept valid′ (sides .1) .used))
+
+  pub pairs-valid : Valid first → 1 ≤ length (pairs joined) → Valid (pairTransducer first second joined)
+  pairs-valid valid some = accepted-valid _ (pairs-accepted valid some)
 
   -- the arrays have their lengths
   pub pairs-shaped : Shaped second → Shaped (pairTransducer first second joined)

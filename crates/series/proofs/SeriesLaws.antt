@@ -10,12 +10,13 @@ use lib.ListN.{length}
 use Rattle.transducer.specs.Refusals.{invalid, moreThanOneCode, manyPairs}
 use Rattle.transducer.specs.Transition.{InputWord, OutputWord}
 use Rattle.transducer.specs.Blank.{blankTransducer}
-use Rattle.transducer.specs.Valid.{Valid, Shaped}
+use Rattle.transducer.specs.Valid.{Shaped}
+use Rattle.transducer.specs.Accepted.{acceptedOf}
 use Rattle.transducer.specs.Lines.{transducerOf}
 use Rattle.transducer.specs.Paths.{Relates, Functional}
 use Rattle.transducer.specs.declared.Transducer.{Transducer}
 use Rattle.transducer.proofs.Bools.{same-flag}
-use Rattle.transducer.proofs.BlankLaws.{blank-relates, blank-valid, blank-shaped}
+use Rattle.transducer.proofs.BlankLaws.{blank-relates, blank-accepted, blank-shaped}
 use Rattle.product.specs.Numbers.{firstOf, secondOf}
 use Rattle.joints.specs.Joint.{JoinedPair}
 use Rattle.series.specs.Result.{pairs, pairTransducer, resultOf}
@@ -25,7 +26,7 @@ use Rattle.series.specs.declared.Outcome.{Outcome}
 use Rattle.series.specs.declared.Outcome.the-variants.{Made, Invalid, MoreThanOneCode, ManyPairs, ManyTransitions}
 use Rattle.series.specs.declared.Joined.{Joined}
 use Rattle.series.proofs.ResultLaws.{set-below}
-use Rattle.series.proofs.RuleLaws.{pairs-valid, pairs-shaped}
+use Rattle.series.proofs.RuleLaws.{pairs-accepted, pairs-shaped}
 use Rattle.series.proofs.RefusalLaws.{Taken, not-refused, refused-anyway}
 use Rattle.series.proofs.Composition.{related-composes, composes-related, pair-useful}
 
@@ -43,9 +44,11 @@ module _ (first second : Transducer) (joined : ℕ → Bool) where
       go false e = let z = eqb-false (length (pairs joined)) 0 e in some (omega arith)
 
   module _ (t : Taken first second joined) where
-    -- it keeps the rules
-    result-valid : Valid (resultOf first second joined)
-    result-valid = result-either Valid (λ _. blank-valid) (pairs-valid first second joined (t .few-pairs) (t .few-lines) (t .valid′) (t .valid))
+    -- it is accepted
+    result-accepted : acceptedOf (resultOf first second joined) ≡ true
+    result-accepted =
+        result-either (λ r. acceptedOf r ≡ true) (λ _. blank-accepted)
+        (pairs-accepted first second joined (t .few-pairs) (t .few-lines) (t .valid′) (t .valid))
 
     -- and its arrays have their lengths
     result-shaped : Shaped second → Shaped (resultOf first second joined)
@@ -89,7 +92,7 @@ module _ {first second : Transducer} {r : Joined} (h : JoinedOf first second r) 
       (λ t. result-either first second (h .joined) NoneInVain (λ _. inl refl)
       (λ _. inr (pair-useful first second (h .joined) (t .valid) (t .valid′) (h .exactly (t .joins)) (t .few-pairs))))
 
-  -- it composes, keeps what is functional and keeps the rules, and has no state in vain
+  -- it composes, keeps what is functional, is accepted, and has no state in vain
   pub in-series : InSeries first second r
   in-series =
       record {
@@ -99,7 +102,7 @@ module _ {first second : Transducer} {r : Joined} (h : JoinedOf first second r) 
             (λ t x y z a b.
             let c = result-composes first second (h .joined) t (h .exactly (t .joins)) x in
             composed-functional f g (c y .0 a) (c z .0 b));
-        valid = answered Valid blank-valid (result-valid first second (h .joined));
+        accepted = answered (λ t. acceptedOf t ≡ true) blank-accepted (result-accepted first second (h .joined));
         useful = joined-useful;
       }
     where

@@ -9,7 +9,7 @@ use lib.ListN.{length, getD, replicate, length-replicate, getD-replicate}
 use Rattle.transducer.specs.Limits.{mostStates, mostTransitions}
 use Rattle.transducer.specs.Transition.{outside}
 use Rattle.transducer.specs.Blank.{clearTransition}
-use Rattle.transducer.specs.Lines.{transducerOf}
+use Rattle.transducer.specs.Lines.{keeping}
 use Rattle.transducer.specs.declared.StateSet.{StateSet}
 use Rattle.transducer.specs.declared.Transition.{Transition}
 use Rattle.transducer.specs.declared.Transducer.{Transducer}
@@ -113,10 +113,14 @@ module _ {first second : Transducer} {left right : List ℕ} (c : Coupled first 
 
 -- ---- the whole
 
-pub table-is : (first second : Transducer) (joined : ℕ → Bool) (n k : ℕ) (s f : StateSet) (x : List Transition) → n ≡ length (pairs joined)
+-- whatever set it kept before
+pub table-is : (first second : Transducer) (joined : ℕ → Bool) (n k : ℕ) (s f u : StateSet) (x : List Transition) → n ≡ length (pairs joined)
     → s ≡ bothIn joined (first .starts) (second .starts) → f ≡ bothIn joined (first .finals) (second .finals)
     → k ≡ length (lines first second joined)
     → x ≡ lines first second joined ++ replicate (mostTransitions - length (lines first second joined)) clearTransition
-    → _≡_ {A = Transducer} (record { states = n; starts = s; finals = f; count = k; transitions = x }) (pairTransducer first second joined)
-unfolding pairTransducer transducerOf
-table-is first second joined n k s f x en es ef ek ex = λ i. record { states = en i; starts = es i; finals = ef i; count = ek i; transitions = ex i }
+    → keeping (record { states = n; starts = s; finals = f; count = k; transitions = x; useful = u }) ≡ pairTransducer first second joined
+unfolding pairTransducer
+table-is first second joined n k s f u x en es ef ek ex =
+    (λ i. keeping (record { states = en i; starts = es i; finals = ef i; count = ek i; transitions = ex i; useful = u }))
+    ∙ line.keeping-made (length (pairs joined)) (bothIn joined (first .starts) (second .starts)) (bothIn joined (first .finals) (second .finals))
+    (lines first second joined) u

@@ -54,10 +54,10 @@ impl Outcome {
 pub fn join(first: Transducer, second: Transducer) -> Joined
     ensures { λ r. ⌜ JoinedOf first second r ⌝ }
 {
-    if !transducer::accepted(first) {
+    if !useful::accepted(first) {
         return with_blank(Outcome::Invalid);
     }
-    if !transducer::accepted(second) {
+    if !useful::accepted(second) {
         return with_blank(Outcome::Invalid);
     }
     if !one_code(first) {

@@ -27,7 +27,7 @@ const STATES: u32 = limits::STATES as u32;
 // What a side takes in a step: one of its transitions, or NO_TRANSITION.
 const CHOICES: usize = NO_TRANSITION as usize + 1;
 
-// The transducer whose states are the joined pairs and whose transitions are the k steps of the list.
+// The transducer whose states are the joined pairs and whose transitions are the k steps of the list, keeping its useful states.
 pub fn table(
     first: Transducer,
     second: Transducer,
@@ -50,6 +50,7 @@ pub fn table(
     requires { ⌜ length (now list) ≡ mostTransitions ⌝ }
     requires { ⌜ Listed (now list) k (stepsOf (now left) (now right) (among (now joined))) ⌝ }
     requires { ⌜ k ≤ mostTransitions ⌝ }
+    requires { ⌜ 1 ≤ n ⌝ }
     ensures { λ r. ⌜ r ≡ pairTransducer first second (among (now (joined .entry))) ⌝ }
 {
     let transitions = transitions(first, second, left, right, states, list, k);
@@ -59,13 +60,15 @@ pub fn table(
     let end = first.finals;
     let end2 = second.finals;
     let finals = both_in(joined, end, end2);
-    Transducer {
+    let pairs = Transducer {
         states: n as u8,
         starts,
         finals,
         count: k as u16,
         transitions,
-    }
+        useful: StateSet::empty(),
+    };
+    useful::keep(pairs)
 }
 
 // The transitions that the k steps of the list become; the places beyond are clear.

@@ -1,7 +1,9 @@
 -- The longest file: that of the transducer with every state as a start state and as a final state, and every transition with all its output codes. It is
 -- taken, since it is written, and it has as many bytes as a file can have. Assumes nothing.
-use mathlib.Core.Path.{_≡_, refl, ap}
+use mathlib.Core.Path.{_≡_, refl, ap, _∙_}
 use mathlib.Core.Bool.{true, false}
+use mathlib.Core.List.{List·Memᴰ·not-nil, List·Memᴰ·cases-cons}
+use mathlib.Core.Logic.{⊎-elim}
 use Prim.Native.Nat.{ℕ, zero, suc, _*_, _≤_, _<_}
 use native.Mathlib.Numerals.{add-one}
 use native.Mathlib.Omega.{arith}
@@ -12,13 +14,16 @@ use Rattle.records.specs.Letters.{mostBytes}
 use Rattle.transducer.specs.Limits.{mostStates, mostTransitions, mostOutputs}
 use Rattle.transducer.specs.StateSet.{has, In}
 use Rattle.transducer.specs.Transition.{outside, at, outputAt}
-use Rattle.transducer.specs.Valid.{Used, Valid, Shaped}
+use Rattle.transducer.specs.Valid.{Used, Shaped}
+use Rattle.transducer.specs.Lines.{transducerOf, Among}
+use Rattle.transducer.specs.Accepted.{acceptedOf}
 use Rattle.transducer.specs.declared.OutputCode.{OutputCode}
 use Rattle.transducer.specs.declared.StateSet.{StateSet}
 use Rattle.transducer.specs.declared.Transition.{Transition}
 use Rattle.transducer.specs.declared.Transducer.{Transducer}
 use Rattle.transducer.proofs.Bools.{and-left}
-use Rattle.transducer.proofs.AcceptedLaws.{valid-accepted}
+use Rattle.transducer.proofs.LineLaws.{made-at, made-shaped}
+use Rattle.transducer.proofs.AcceptedLaws.{made-accepted}
 use Rattle.tablereader.specs.declared.Reading.{Reading}
 use Rattle.tablereader.proofs.TransitionRecords.{noCode}
 use Rattle.tablewriter.specs.File.{statesBelow, sizeOf, outputsBelow, writeOf}
@@ -37,7 +42,7 @@ loop : Transition
 loop = record { from = 0; to = 0; input = record { 0 = 0 }; count = mostOutputs; output = replicate mostOutputs one }
 
 full : Transducer
-full = record { states = mostStates; starts = every; finals = every; count = mostTransitions; transitions = replicate mostTransitions loop }
+full = transducerOf mostStates every every (replicate mostTransitions loop)
 
 -- ---- it keeps the rules
 
@@ -67,30 +72,33 @@ loop-used =
 
 each-loop : (l : ℕ) → l < mostTransitions → at full l ≡ loop
 unfolding full
-each-loop l h = getD-replicate mostTransitions l loop outside h
+each-loop l h =
+    made-at mostStates every every (replicate mostTransitions loop) l (omega (arith, length-replicate mostTransitions loop))
+    ∙ getD-replicate mostTransitions l loop outside h
 
-full-valid : Valid full
+-- nothing else stands there
+only-one : (n : ℕ) {v w : Transition} → Among v (replicate n w) → v ≡ w
+only-one zero m = absurd (List·Memᴰ·not-nil m)
+only-one (suc n) m = ⊎-elim (λ e. e) (λ k. only-one n k) (List·Memᴰ·cases-cons m)
+
+full-accepted : acceptedOf full ≡ true
 unfolding full
-full-valid =
-    record {
+full-accepted =
+    made-accepted mostStates every every (replicate mostTransitions loop) .1
+    (record {
       some-state = omega arith;
       few-states = omega arith;
       start-state = every-below;
       final-state = every-below;
-      few-transitions = omega arith;
-      used = λ l h. rw (each-loop l h) loop-used;
-      beyond-clear = λ l h k. absurd (omega arith);
-    }
+      few-lines = omega (arith, length-replicate mostTransitions loop);
+      used = λ v m. rw (only-one mostTransitions m) loop-used;
+    })
 
 full-shaped : Shaped full
 unfolding full every loop
 full-shaped =
-    record {
-      starts = length-replicate mostStates true;
-      finals = length-replicate mostStates true;
-      transitions = length-replicate mostTransitions loop;
-      outputs = λ l h. rw (each-loop l h) (length-replicate mostOutputs one);
-    }
+    made-shaped mostStates every every (replicate mostTransitions loop) (length-replicate mostStates true) (length-replicate mostStates true)
+    (omega (arith, length-replicate mostTransitions loop)) (λ v m. rw (only-one mostTransitions m) (length-replicate mostOutputs one))
 
 -- ---- its length
 
@@ -109,13 +117,13 @@ outputs-full zero h = refl
 outputs-full (suc n) h = omega (arith, outputs-full n (omega arith), ap (λ (v : Transition). v .count) (each-loop n h))
 
 full-size : length (writeOf full) ≡ mostBytes
-unfolding full
+unfolding full transducerOf
 full-size = omega (arith, written-length full, size-every, outputs-full mostTransitions (omega arith))
 
 pub longest-taken : LongestTaken
 longest-taken =
     record {
       file = writeOf full;
-      taken = ap (λ (r : Reading). r .outcome) (read-written full (valid-accepted full full-valid) full-shaped);
+      taken = ap (λ (r : Reading). r .outcome) (read-written full full-accepted full-shaped);
       size = full-size;
     }

@@ -18,21 +18,22 @@ use Rattle.transducer.specs.Blank.{clearTransition, blankTransducer}
 use Rattle.transducer.specs.Valid.{Valid, Shaped}
 use Rattle.transducer.specs.Accepted.{acceptedOf}
 use Rattle.transducer.specs.declared.StateSet.{StateSet}
+use Rattle.transducer.specs.Lines.{keeping}
 use Rattle.transducer.specs.declared.Transducer.{Transducer}
-use Rattle.transducer.proofs.AcceptedLaws.{accepted-valid}
+use Rattle.transducer.proofs.AcceptedLaws.{accepted-valid, made-again}
 use Rattle.transducer.proofs.SizeLaws.{length-firsts}
 use Rattle.tablereader.specs.Outcome.{outcomeOf, _▸_}
 use Rattle.tablereader.specs.Record.{headerRanges, headerSize, stateSize}
 use Rattle.tablereader.specs.Header.{countsOf, headerOf}
 use Rattle.tablereader.specs.States.{statesFrom}
 use Rattle.tablereader.specs.Transitions.{transitionsFrom}
-use Rattle.tablereader.specs.Reader.{endFault, recordCount, startsOf, finalsOf, transitionsOf, outcomeWith, tableWith, readOf}
+use Rattle.tablereader.specs.Reader.{endFault, recordCount, startsOf, finalsOf, transitionsOf, outcomeWith, recordsWith, tableWith, readOf}
 use Rattle.tablereader.specs.declared.header.Header.{Header}
 use Rattle.tablereader.specs.declared.Outcome.the-variants.{Taken, BytesFollow}
 use Rattle.tablereader.proofs.TakenLaws.{end-follows}
 use Rattle.tablewriter.specs.File.{statesOf, sizeOf, stateBytes, transitionBytesBelow, headerBytes, writeOf}
 use Rattle.tablewriter.proofs.FileLaws.{file-then}
-use Rattle.transducer.proofs.LineLaws.{clear-same}
+use Rattle.transducer.proofs.LineLaws.{clear-same, made-keeping}
 use Rattle.tablewriter.proofs.LengthLaws.{size-most}
 use Rattle.tablefile.proofs.Rising.{add-states, set-rising}
 use Rattle.tablefile.proofs.Filled.{filled-firsts}
@@ -141,11 +142,12 @@ module _ (t : Transducer) (v : Valid t) (s : Shaped t) (text rest : List ℕ) (i
   unfolding outcomeWith startsOf finalsOf transitionsOf outcomeOf _▸_
   outcome-end = rw (starts-read .read, finals-read .read, all-read .read)
 
-  table-same : tableWith text (counts t) ≡ t
-  unfolding tableWith startsOf finalsOf transitionsOf
+  -- the set that is kept is worked out anew
+  table-same : tableWith text (counts t) ≡ keeping t
+  unfolding tableWith recordsWith startsOf finalsOf transitionsOf keeping
   table-same = rw (starts-read .read, finals-read .read, all-read .read)
 
-  text-read : length rest ≡ 0 → readOf text ≡ record { outcome = Taken; table = t }
+  text-read : length rest ≡ 0 → readOf text ≡ record { outcome = Taken; table = keeping t }
   unfolding readOf outcomeOf endFault
   text-read none = rw (header-same, outcome-end, table-same, le-ltb (all-read .end) (length text) (omega (arith, left)))
 
@@ -155,7 +157,8 @@ module _ (t : Transducer) (v : Valid t) (s : Shaped t) (text rest : List ℕ) (i
 
 -- reading a written table gives that table
 pub read-written : (t : Transducer) → acceptedOf t ≡ true → Shaped t → readOf (writeOf t) ≡ record { outcome = Taken; table = t }
-read-written t v s = text-read t (accepted-valid t v) s (writeOf t) [] (sym (append-nil (writeOf t))) refl
+read-written t v s =
+    rw (← made-keeping t (accepted-valid t v) s, made-again t v s) at (text-read t (accepted-valid t v) s (writeOf t) [] (sym (append-nil (writeOf t))) refl)
 
 -- with bytes behind it it is refused with 6, at the count of its records
 pub read-followed : (t : Transducer) → acceptedOf t ≡ true → Shaped t → (rest : List ℕ) → 1 ≤ length rest

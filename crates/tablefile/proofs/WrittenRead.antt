@@ -15,12 +15,13 @@ use Rattle.transducer.specs.StateSet.{noStates}
 use Rattle.transducer.specs.Transition.{outside, at, firsts}
 use Rattle.transducer.specs.Blank.{clearTransition, blankTransducer}
 use Rattle.transducer.specs.declared.StateSet.{StateSet}
+use Rattle.transducer.specs.Lines.{keeping}
 use Rattle.transducer.specs.declared.Transducer.{Transducer}
 use Rattle.tablereader.specs.Record.{headerRanges, headerSize, stateSize}
 use Rattle.tablereader.specs.Header.{headerOf}
 use Rattle.tablereader.specs.States.{statesFrom}
 use Rattle.tablereader.specs.Transitions.{transitionsFrom}
-use Rattle.tablereader.specs.Reader.{endFault, startsOf, finalsOf, transitionsOf, tableWith, readOf}
+use Rattle.tablereader.specs.Reader.{endFault, startsOf, finalsOf, transitionsOf, recordsWith, tableWith, readOf}
 use Rattle.tablereader.specs.declared.header.Header.{Header}
 use Rattle.tablereader.specs.declared.Outcome.the-variants.{Taken}
 use Rattle.tablereader.proofs.HeaderRecord.{Counted, counted}
@@ -72,16 +73,16 @@ module _ (text : List ℕ) (h : Header) (c : Counted h) where
       rw same (b .bytes)
 
   starts-back : Passed text h → SetBack letterS (h .starts) headerSize (tableWith text h .starts)
-  unfolding tableWith startsOf
+  unfolding tableWith recordsWith startsOf keeping
   starts-back p = set-back letterS (h .starts) headerSize 1 (p .starts)
 
   finals-back : Passed text h → SetBack letterF (h .finals) (headerSize + stateSize * h .starts) (tableWith text h .finals)
-  unfolding tableWith finalsOf
+  unfolding tableWith recordsWith finalsOf keeping
   finals-back p = set-back letterF (h .finals) (headerSize + stateSize * h .starts) (1 + h .starts) (p .finals)
 
   all-back : Passed text h
       → drop (headerSize + stateSize * h .starts + stateSize * h .finals) text ≡ transitionBytesBelow (tableWith text h) (tableWith text h .count) ++ []
-  unfolding tableWith transitionsOf
+  unfolding tableWith recordsWith transitionsOf keeping
   all-back p =
       rw (← end-back text (transitionsOf text h .next) (p .end))
       (transitions-same (tableWith text h) _ (1 + h .starts + h .finals) refl refl (p .transitions))
@@ -97,7 +98,7 @@ module _ (text : List ℕ) (h : Header) (c : Counted h) where
       sym (e ∙ rw (header, s .bytes, f .bytes, l) (sym (file-then t []) ∙ append-nil (writeOf t)))
 
   table-written : Passed text h → text ≡ bytesOf h ++ drop headerSize text → writeOf (tableWith text h) ≡ text
-  unfolding tableWith
+  unfolding tableWith recordsWith keeping
   table-written p e = all-written (tableWith text h) refl refl (starts-back p) (finals-back p) (all-back p) e
 
 -- writing a read file gives its bytes

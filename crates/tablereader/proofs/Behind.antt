@@ -18,7 +18,7 @@ use Rattle.tablereader.specs.Record.{headerRanges, stateRanges, headerSi
 use Rattle.tablereader.specs.Header.{countsOf, headerOf}
 use Rattle.tablereader.specs.States.{stateRecord, readStates, statesFrom}
 use Rattle.tablereader.specs.Transitions.{countAt, transitionRecord, readTransitions, transitionsFrom}
-use Rattle.tablereader.specs.Reader.{startsOf, finalsOf, transitionsOf, outcomeWith, tableWith, readOf}
+use Rattle.tablereader.specs.Reader.{startsOf, finalsOf, transitionsOf, outcomeWith, recordsWith, tableWith, readOf}
 use Rattle.tablereader.specs.declared.Outcome.{Outcome}
 use Rattle.tablereader.specs.declared.Outcome.the-variants.{Taken}
 use Rattle.tablereader.specs.declared.header.Header.{Header}
@@ -81,7 +81,7 @@ module _ (text rest : List ℕ) where
         (blankTransducer .transitions) (omega (arith, c .few-starts, c .few-finals, c .few-transitions))
 
     table-same : tableWith (text ++ rest) h ≡ tableWith text h
-    unfolding tableWith
+    unfolding tableWith recordsWith
     table-same = rw (starts-same, finals-same, transitions-same)
 
     outcome-same : transitionsOf text h .next ≤ mostBytes → outcomeWith (text ++ rest) h ≡ outcomeWith text h

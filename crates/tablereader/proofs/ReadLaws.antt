@@ -12,16 +12,18 @@ use Rattle.transducer.specs.Refusals.{ended, wrongByte, notANumber, outOfRange,
 use Rattle.transducer.specs.Transition.{outside}
 use Rattle.transducer.specs.Blank.{blankTransducer}
 use Rattle.transducer.specs.Valid.{Shaped}
+use Rattle.transducer.specs.Lines.{linesOf, keeping}
 use Rattle.transducer.specs.declared.StateSet.{StateSet}
 use Rattle.transducer.specs.declared.Transition.{Transition}
 use Rattle.transducer.proofs.SizeLaws.{length-firsts}
+use Rattle.transducer.proofs.LineLaws.{set-long}
 use Rattle.records.specs.Letters.{letterS, letterF}
 use Rattle.tablereader.specs.Outcome.{numberOf, recordOf, outcomeOf, _▸_}
 use Rattle.tablereader.specs.Record.{mostRecords}
 use Rattle.tablereader.specs.Header.{headerOf}
 use Rattle.tablereader.specs.States.{readStates, statesFrom}
 use Rattle.tablereader.specs.Transitions.{transitionOf, readTransitions, transitionsFrom}
-use Rattle.tablereader.specs.Reader.{recordCount, startsOf, finalsOf, transitionsOf, outcomeWith, tableWith, readOf}
+use Rattle.tablereader.specs.Reader.{recordCount, startsOf, finalsOf, transitionsOf, outcomeWith, recordsWith, tableWith, readOf}
 use Rattle.tablereader.specs.declared.Outcome.{Outcome}
 use Rattle.tablereader.specs.declared.Outcome.the-variants.{Taken, Ended, WrongByte, NotANumber, OutOfRange, NotRising, BytesFollow}
 use Rattle.tablereader.specs.declared.header.Header.{Header}
@@ -58,7 +60,7 @@ transitions-sized (suc k) text n at rec i outcome l h s =
     })
 
 table-shaped : (text : List ℕ) (h : Header) → Counted h → Shaped (tableWith text h)
-unfolding tableWith startsOf finalsOf transitionsOf transitionsFrom
+unfolding tableWith recordsWith startsOf finalsOf transitionsOf transitionsFrom keeping
 table-shaped text h c =
     let lines = transitions-sized (h .transitions) text (h .states) _ _ 0 _ _ (omega (arith, c .few-transitions)) blank-sized in
     record {
@@ -66,6 +68,7 @@ table-shaped text h c =
       finals = states-from-below (h .finals) text letterF (h .states) _ _ (c .some-state) .size;
       transitions = lines .size;
       outputs = lines .outputs;
+      useful = set-long (h .states) (startsOf text h .set) (finalsOf text h .set) (linesOf (recordsWith text h));
     }
 
 pub read-shaped : (text : List ℕ) → Shaped (readOf text .table)

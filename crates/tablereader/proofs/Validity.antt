@@ -10,12 +10,12 @@ use Rattle.transducer.specs.Blank.{blankTransducer}
 use Rattle.transducer.specs.Valid.{Valid}
 use Rattle.transducer.specs.Accepted.{acceptedOf}
 use Rattle.transducer.specs.declared.Transducer.{Transducer}
-use Rattle.transducer.proofs.AcceptedLaws.{valid-accepted}
-use Rattle.transducer.proofs.BlankLaws.{blank-valid}
+use Rattle.transducer.proofs.AcceptedLaws.{accepted-valid, keeping-accepted}
+use Rattle.transducer.proofs.BlankLaws.{blank-accepted}
 use Rattle.tablereader.specs.Outcome.{numberOf}
 use Rattle.records.specs.Letters.{letterS, letterF}
 use Rattle.tablereader.specs.Header.{headerOf}
-use Rattle.tablereader.specs.Reader.{startsOf, finalsOf, transitionsOf, outcomeWith, tableWith, readOf}
+use Rattle.tablereader.specs.Reader.{startsOf, finalsOf, transitionsOf, outcomeWith, recordsWith, tableWith, readOf}
 use Rattle.tablereader.specs.declared.header.Header.{Header}
 use Rattle.tablereader.proofs.HeaderRecord.{Counted, counted}
 use Rattle.tablereader.proofs.StateRecords.{Below, states-from-below}
@@ -35,23 +35,22 @@ valid t some few most s f p =
       beyond-clear = p .clear;
     }
 
-table-valid : (text : List ℕ) (h : Header) → Counted h → Valid (tableWith text h)
-unfolding tableWith startsOf finalsOf transitionsOf
-table-valid text h c =
+pub records-valid : (text : List ℕ) (h : Header) → Counted h → Valid (recordsWith text h)
+unfolding recordsWith startsOf finalsOf transitionsOf
+records-valid text h c =
     let some = c .some-state in
-    valid (tableWith text h) some (c .few-states) (c .few-transitions) (states-from-below (h .starts) text letterS (h .states) _ _ some)
+    valid (recordsWith text h) some (c .few-states) (c .few-transitions) (states-from-below (h .starts) text letterS (h .states) _ _ some)
     (states-from-below (h .finals) text letterF (h .states) _ _ some)
     (transitions-from-placed (h .transitions) text (h .states) _ _ some (c .few-transitions))
 
--- what is read keeps the rules of a transducer, also where it is the blank one
-pub read-valid : (text : List ℕ) → Valid (readOf text .table)
-unfolding readOf
-read-valid text = go (eqb (numberOf (outcomeWith text (headerOf text))) 0)
-  where
-    go : (x : Bool) → Valid (cond x (tableWith text (headerOf text)) blankTransducer)
-    go true = table-valid text (headerOf text) (counted text (headerOf text) refl)
-    go false = blank-valid
-
--- so every entry point accepts it
+-- every entry point accepts what is read, also where it is the blank transducer: it keeps the rules, and its useful states
 pub read-accepted : (text : List ℕ) → acceptedOf (readOf text .table) ≡ true
-read-accepted text = valid-accepted _ (read-valid text)
+unfolding readOf tableWith
+read-accepted text = go (eqb (numberOf (outcomeWith text (headerOf text))) 0)
+  where
+    go : (x : Bool) → acceptedOf (cond x (tableWith text (headerOf text)) blankTransducer) ≡ true
+    go true = keeping-accepted _ (records-valid text (headerOf text) (counted text (headerOf text) refl))
+    go false = blank-accepted
+
+pub read-valid : (text : List ℕ) → Valid (readOf text .table)
+read-valid text = accepted-valid _ (read-accepted text)

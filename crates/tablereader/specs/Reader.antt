@@ -6,7 +6,9 @@ use Prim.Native.Nat.{ℕ, _+_, _*_}
 use lib.Dec.{eqb, ltb}
 use lib.ListN.{length}
 use Rattle.transducer.specs.Refusals.{bytesFollow}
+use Rattle.transducer.specs.StateSet.{noStates}
 use Rattle.transducer.specs.Blank.{blankTransducer}
+use Rattle.transducer.specs.Lines.{keeping}
 use Rattle.transducer.specs.declared.Transducer.{Transducer}
 use Rattle.tablereader.specs.Outcome.{numberOf, outcomeOf, _▸_}
 use Rattle.tablereader.specs.Record.{headerSize, stateSize}
@@ -48,10 +50,21 @@ module _ (text : List ℕ) (h : Header) where
       outcomeOf (h .fault) 0 ▸ startsOf .outcome ▸ finalsOf .outcome ▸ transitionsOf .outcome
       ▸ outcomeOf (endFault text (transitionsOf .next)) (recordCount h)
 
-  -- the transducer that the records give
+  -- what the records give of a transducer
+  unfoldable pub recordsWith : Transducer
+  recordsWith =
+      record {
+        states = h .states;
+        starts = startsOf .set;
+        finals = finalsOf .set;
+        count = h .transitions;
+        transitions = transitionsOf .transitions;
+        useful = noStates;
+      }
+
+  -- the transducer: its useful states, which it keeps, no record has
   unfoldable pub tableWith : Transducer
-  tableWith =
-      record { states = h .states; starts = startsOf .set; finals = finalsOf .set; count = h .transitions; transitions = transitionsOf .transitions }
+  tableWith = keeping recordsWith
 
 -- a refusal leaves the blank transducer
 abbrev pub readingOf : Outcome → Transducer → Reading

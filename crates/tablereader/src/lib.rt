@@ -10,6 +10,7 @@ pub mod record;
 pub mod states;
 pub mod transitions;
 
+use transducer::StateSet;
 use transducer::Transducer;
 use transducer::refusals;
 
@@ -69,16 +70,16 @@ pub fn read(text: &[u8]) -> Reading
         let start_set = starts.set;
         let final_set = finals.set;
         let transitions = rest.transitions;
-        Reading {
-            outcome,
-            table: Transducer {
-                states: counts.states as u8,
-                starts: start_set,
-                finals: final_set,
-                count: counts.transitions,
-                transitions,
-            },
-        }
+        let records = Transducer {
+            states: counts.states as u8,
+            starts: start_set,
+            finals: final_set,
+            count: counts.transitions,
+            transitions,
+            useful: StateSet::empty(),
+        };
+        let table = useful::keep(records);
+        Reading { outcome, table }
     } else {
         Reading {
             outcome,

@@ -45,7 +45,7 @@ impl Writing {
 pub fn write(t: Transducer, out: &mut [u8]) -> Writing
     ensures { λ r. ⌜ Wrote t (now (out .entry)) (now (out .exit)) r ⌝ }
 {
-    if !transducer::accepted(t) {
+    if !useful::accepted(t) {
         return Writing::Invalid;
     }
     if out.len() < size::file_length(t) {

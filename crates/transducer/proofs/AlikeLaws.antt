@@ -1,7 +1,8 @@
 -- Transducers with the same lines, repeats not counted: to be alike is an equivalence; which changes of its lines leave a transducer alike; alike ones
--- have the same relation, the same useful states and pairs, and are functional together. The last follows from `Within` both ways: what each of them
+-- have the same relation, the same useful states and pairs, keep the same set, and are functional together. The last follows from `Within` both ways: what each of them
 -- has stands in the other. Assumes nothing.
 use mathlib.Core.Path.{_≡_, refl, sym, _∙_}
+use mathlib.Core.Bool.{true}
 use mathlib.Core.List.{List, [], _∷_, _++_, List·Memᴰ·head, List·Memᴰ·tail, List·Memᴰ·cases-cons, Memᴰ·cast, Memᴰ·append-left, Memᴰ·append-right}
 use mathlib.Core.List.{List·Permᴰ, List·Permᴰ·nil, List·Permᴰ·cons, List·Permᴰ·swap, List·Permᴰ·trans, Permᴰ·symm}
 use mathlib.Core.Logic.{_≢_, _↔_, ⊎-elim}
@@ -15,9 +16,12 @@ use Rattle.transducer.specs.Transition.{at, outside}
 use Rattle.transducer.specs.Lines.{linesOf, transducerOf, appended, Among, AllAmong}
 use Rattle.transducer.specs.Paths.{Functional, Equivalent}
 use Rattle.transducer.specs.Useful.{UsefulState, UsefulPair}
+use Rattle.transducer.specs.Accepted.{acceptedOf}
 use Rattle.transducer.specs.Alike.{Alike, exchanged}
 use Rattle.transducer.specs.declared.Transition.{Transition}
 use Rattle.transducer.specs.declared.Transducer.{Transducer}
+use Rattle.transducer.proofs.Bools.{same-flag}
+use Rattle.transducer.proofs.AcceptedLaws.{accepted-kept}
 use Rattle.transducer.proofs.LineLaws.{place-among, lines-long, line-at, at-among, among-numbered, made-lines, appended-lines, each-line}
 use Rattle.transducer.proofs.WithinLaws.{Within, relates-within, functional-within, useful-state-within, useful-pair-within}
 
@@ -144,6 +148,15 @@ module _ {t t′ : Transducer} (h : Alike t t′) where
 
   pub alike-useful-state : {q : ℕ} → UsefulState t q ↔ UsefulState t′ q
   alike-useful-state = (useful-state-within there, useful-state-within back)
+
+  -- so they keep the same set (document 02, job 7)
+  pub alike-kept : acceptedOf t ≡ true → acceptedOf t′ ≡ true → (q : ℕ) → has (t .useful) q ≡ has (t′ .useful) q
+  alike-kept a a′ q =
+      let k = accepted-kept t a q in
+      let k′ = accepted-kept t′ a′ q in
+      same-flag (has (t .useful) q) (has (t′ .useful) q)
+      (λ m. k′ .1 (alike-useful-state .0 (k .0 m)))
+      (λ m. k .1 (alike-useful-state .1 (k′ .0 m)))
 
   pub alike-useful-pair : {p q : ℕ} → UsefulPair t p q ↔ UsefulPair t′ p q
   alike-useful-pair = (useful-pair-within there, useful-pair-within back)

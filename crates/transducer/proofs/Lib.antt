@@ -2,7 +2,6 @@
 pub mod Bools
 pub mod Facts
 pub mod RefusalLaws
-pub mod AcceptedLaws
 pub mod CodeLaws
 pub mod StateSetLaws
 pub mod PathLaws
@@ -11,6 +10,9 @@ pub mod ZipLaws
 pub mod WalkLaws
 pub mod MoveLaws
 pub mod LineLaws
+pub mod ThroughLaws
+pub mod KeptLaws
+pub mod AcceptedLaws
 pub mod BlankLaws
 pub mod WithinLaws
 pub mod RemovalLaws

@@ -12,7 +12,8 @@ use Rattle.transducer.specs.Limits.{mostStates, mostTransitions, mostOut
 use Rattle.transducer.specs.Transition.{at, outside, firsts, outputAt, writtenBy}
 use Rattle.transducer.specs.Blank.{clearTransition}
 use Rattle.transducer.specs.Valid.{Used, Clear, Valid, Shaped}
-use Rattle.transducer.specs.Lines.{linesOf, transducerOf, appended, Among, Keeps}
+use Rattle.transducer.specs.Kept.{usefulOf, usefulSet}
+use Rattle.transducer.specs.Lines.{linesOf, transducerOf, keeping, appended, Among, Keeps}
 use Rattle.transducer.specs.declared.OutputCode.{OutputCode}
 use Rattle.transducer.specs.declared.StateSet.{StateSet}
 use Rattle.transducer.specs.declared.Transition.{Transition}
@@ -63,6 +64,13 @@ module _ (t : Transducer) where
   pub at-among : (l : ℕ) → l < t .count → Among (at t l) (linesOf t)
   at-among l h = rw (line-at l h) at (place-among (linesOf t) outside l (omega (arith, lines-long)))
 
+-- they are these, where each place has its own
+lines-are : (t : Transducer) (lines : List Transition) → t .count ≡ length lines → ((l : ℕ) → l < length lines → at t l ≡ getD lines l outside)
+    → linesOf t ≡ lines
+lines-are t lines count line =
+    ext-getD outside (linesOf t) lines (lines-long t ∙ count)
+    (λ l h. let k : l < t .count = omega (arith, lines-long t) in line-at t l k ∙ line l (omega (arith, count)))
+
 -- and one of the lines is a transition
 pub record Numbered (t : Transducer) (v : Transition) : Type 0 where
   pub number : ℕ
@@ -100,9 +108,7 @@ module _ (n : ℕ) (starts finals : StateSet) (lines : List Transition) where
   -- its lines are the ones of which it is made
   pub made-lines : linesOf (transducerOf n starts finals lines) ≡ lines
   unfolding transducerOf
-  made-lines =
-      let t = transducerOf n starts finals lines in
-      ext-getD outside (linesOf t) lines (lines-long t) (λ l h. let k : l < length lines = omega (arith, lines-long t) in line-at t l k ∙ made-at l k)
+  made-lines = lines-are (transducerOf n starts finals lines) lines refl made-at
 
 -- ---- back again
 
@@ -139,19 +145,49 @@ array-is lines array few size line clear = ext-getD outside array (lines ++ rest
         (λ (k : l < length lines). line l k ∙ sym (List·getD-append lines rest outside l k))
         (le-or-lt (length lines) l)
 
--- a transducer with these lines and clear transitions behind them is made of them
+-- a transducer with these lines and clear transitions behind them is made of them, once it keeps its useful states
 pub made-of : (t : Transducer) (lines : List Transition) → length lines ≤ mostTransitions → t .count ≡ length lines
     → length (t .transitions) ≡ mostTransitions → ((l : ℕ) → l < length lines → at t l ≡ getD lines l outside)
     → ((l : ℕ) → length lines ≤ l → l < mostTransitions → at t l ≡ clearTransition)
-    → t ≡ transducerOf (t .states) (t .starts) (t .finals) lines
-unfolding transducerOf
+    → keeping t ≡ transducerOf (t .states) (t .starts) (t .finals) lines
+unfolding transducerOf keeping
 made-of t lines few count size line clear =
     let array = array-is lines (t .transitions) few size line clear in
-    λ i. record { states = t .states; starts = t .starts; finals = t .finals; count = count i; transitions = array i }
+    let same = lines-are t lines count line in
+    λ i. record {
+      states = t .states;
+      starts = t .starts;
+      finals = t .finals;
+      count = count i;
+      transitions = array i;
+      useful = usefulSet (t .states) (t .starts) (t .finals) (same i);
+    }
+
+-- what is made of lines keeps their useful states, whatever set it kept before
+pub keeping-made : (n : ℕ) (starts finals : StateSet) (lines : List Transition) (u : StateSet)
+    → keeping (record {
+      states = n;
+      starts = starts;
+      finals = finals;
+      count = length lines;
+      transitions = lines ++ replicate (mostTransitions - length lines) clearTransition;
+      useful = u;
+    })
+    ≡ transducerOf n starts finals lines
+unfolding transducerOf keeping
+keeping-made n starts finals lines u =
+    λ i. record {
+      states = n;
+      starts = starts;
+      finals = finals;
+      count = length lines;
+      transitions = lines ++ replicate (mostTransitions - length lines) clearTransition;
+      useful = usefulSet n starts finals (made-lines n starts finals lines i);
+    }
 
 -- one that keeps the rules is made of its own parts
-pub made-again : (t : Transducer) → Valid t → Shaped t → transducerOf (t .states) (t .starts) (t .finals) (linesOf t) ≡ t
-made-again t v s =
+pub made-keeping : (t : Transducer) → Valid t → Shaped t → transducerOf (t .states) (t .starts) (t .finals) (linesOf t) ≡ keeping t
+made-keeping t v s =
     let long = lines-long t in
     sym
     (made-of t (linesOf t) (omega (arith, long, v .few-transitions)) (sym long) (s .transitions)
@@ -169,6 +205,30 @@ clear-clear =
       count-zero = refl;
       outputs-zero = λ j h. ap (λ (c : OutputCode). c .0) (getD-replicate mostOutputs j _ _ h);
     }
+
+-- the set that is kept is no matter of theirs
+pub keeping-valid : (t : Transducer) → Valid (keeping t) ↔ Valid t
+unfolding keeping
+keeping-valid t = (
+  λ v. record {
+    some-state = v .some-state;
+    few-states = v .few-states;
+    start-state = v .start-state;
+    final-state = v .final-state;
+    few-transitions = v .few-transitions;
+    used = v .used;
+    beyond-clear = v .beyond-clear;
+  },
+  λ v. record {
+    some-state = v .some-state;
+    few-states = v .few-states;
+    start-state = v .start-state;
+    final-state = v .final-state;
+    few-transitions = v .few-transitions;
+    used = v .used;
+    beyond-clear = v .beyond-clear;
+  },
+)
 
 -- what is made keeps the rules exactly where its parts do
 module _ (n : ℕ) (starts finals : StateSet) (lines : List Transition) where
@@ -194,6 +254,11 @@ module _ (n : ℕ) (starts finals : StateSet) (lines : List Transition) where
     },
   )
 
+  -- the set of useful states has a flag for each state
+  pub set-long : length (usefulSet n starts finals lines .member) ≡ mostStates
+  unfolding usefulSet
+  set-long = length-firsts mostStates (usefulOf n starts finals lines)
+
   -- and its arrays have their lengths where those of its parts do
   pub made-shaped : length (starts .member) ≡ mostStates → length (finals .member) ≡ mostStates → length lines ≤ mostTransitions
       → ((v : Transition) → Among v lines → length (v .output) ≡ mostOutputs) → Shaped (transducerOf n starts finals lines)
@@ -210,6 +275,7 @@ module _ (n : ℕ) (starts finals : StateSet) (lines : List Transition) where
             (λ (h : length lines ≤ l). rw (made-clear n starts finals lines l h k) (length-replicate {A = OutputCode} mostOutputs (record { 0 = 0 })))
             (λ (h : l < length lines). rw (made-at n starts finals lines l h) (sizes _ (place-among lines outside l h)))
             (le-or-lt (length lines) l);
+        useful = set-long;
       }
 
 -- lines in use that leave and enter the same states, read the same and write the same are the same: nothing else of them can differ

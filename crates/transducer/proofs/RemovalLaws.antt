@@ -10,7 +10,7 @@ use Rattle.transducer.specs.Valid.{Valid, Shaped}
 use Rattle.transducer.specs.Lines.{linesOf, without, removed, Among, AllAmong}
 use Rattle.transducer.specs.declared.Transition.{Transition}
 use Rattle.transducer.specs.declared.Transducer.{Transducer}
-use Rattle.transducer.proofs.LineLaws.{lines-long, among-numbered, made-valid, made-shaped, made-again}
+use Rattle.transducer.proofs.LineLaws.{lines-long, among-numbered, made-valid, made-shaped}
 use Rattle.transducer.proofs.WithinLaws.{Within, lines-within}
 
 -- ---- lines
@@ -54,8 +54,8 @@ without-among (suc l) (w ∷ lines) v m =
 
 module _ (t : Transducer) (l : ℕ) where
   -- what is left lies within what there was (document 02, job 12)
-  pub removed-within : Valid t → Shaped t → Within (removed t l) t
-  removed-within v s = rw (made-again t v s) at (lines-within (t .states) (t .starts) (t .finals) (without-among l (linesOf t)))
+  pub removed-within : Within (removed t l) t
+  removed-within = lines-within t (without l (linesOf t)) (without-among l (linesOf t))
 
   -- the rules stay kept
   pub removed-valid : Valid t → l < t .count → Valid (removed t l)

@@ -8,7 +8,6 @@ use Rattle.transducer.specs.Transition.{InputWord, OutputWord, at}
 use Rattle.transducer.specs.Lines.{linesOf, transducerOf, AllAmong}
 use Rattle.transducer.specs.Paths.{Path, here, step, reads, writes, Relates, Functional}
 use Rattle.transducer.specs.Useful.{Through, UsefulState, UsefulPair}
-use Rattle.transducer.specs.declared.StateSet.{StateSet}
 use Rattle.transducer.specs.declared.Transition.{Transition}
 use Rattle.transducer.specs.declared.Transducer.{Transducer}
 use Rattle.transducer.proofs.PathLaws.{reads-append, output-to}
@@ -20,15 +19,15 @@ pub record Within (t t′ : Transducer) : Type 0 where
   pub finals : (q : ℕ) → In (t .finals) q → In (t′ .finals) q
   pub transitions : AllAmong (linesOf t) (linesOf t′)
 
--- it is so where the lines of which one is made stand among those of the other
-pub lines-within : (n : ℕ) (starts finals : StateSet) {lines lines′ : List Transition} → AllAmong lines lines′
-    → Within (transducerOf n starts finals lines) (transducerOf n starts finals lines′)
+-- t with lines that all stand in t
+pub lines-within : (t : Transducer) (lines : List Transition) → AllAmong lines (linesOf t)
+    → Within (transducerOf (t .states) (t .starts) (t .finals) lines) t
 unfolding transducerOf
-lines-within n starts finals {lines} {lines′} among =
+lines-within t lines among =
     record {
       starts = λ q h. h;
       finals = λ q h. h;
-      transitions = λ v m. rw (made-lines n starts finals lines′) (among v (rw (made-lines n starts finals lines) at m));
+      transitions = λ v m. among v (rw (made-lines (t .states) (t .starts) (t .finals) lines) at m);
     }
 
 -- a path of t from p to q that reads x and writes y

@@ -12,4 +12,11 @@ clearTransition = record { from = 0; to = 0; input = record { 0 = 0 }; count = 0
 -- the blank transducer (document 01: the blank table): one state and nothing else
 unfoldable pub blankTransducer : Transducer
 blankTransducer =
-    record { states = 1; starts = noStates; finals = noStates; count = 0; transitions = replicate mostTransitions clearTransition }
+    record {
+      states = 1;
+      starts = noStates;
+      finals = noStates;
+      count = 0;
+      transitions = replicate mostTransitions clearTransition;
+      useful = noStates;
+    }

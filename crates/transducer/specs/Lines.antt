@@ -7,6 +7,7 @@ use Rattle.transducer.specs.StateSet.{In}
 use Rattle.transducer.specs.Transition.{at, firsts}
 use Rattle.transducer.specs.Blank.{clearTransition}
 use Rattle.transducer.specs.Valid.{Used}
+use Rattle.transducer.specs.Kept.{usefulSet}
 use Rattle.transducer.specs.declared.StateSet.{StateSet}
 use Rattle.transducer.specs.declared.Transition.{Transition}
 use Rattle.transducer.specs.declared.Transducer.{Transducer}
@@ -15,7 +16,7 @@ use Rattle.transducer.specs.declared.Transducer.{Transducer}
 abbrev pub linesOf : Transducer → List Transition
 linesOf t = firsts (t .count) (at t)
 
--- the transducer with n states, these start and final states and these transitions; the places beyond hold 0
+-- the transducer with n states, these start and final states and these transitions, whose useful states it keeps; the places beyond hold 0
 unfoldable pub transducerOf : ℕ → StateSet → StateSet → List Transition → Transducer
 transducerOf n starts finals lines =
     record {
@@ -24,6 +25,23 @@ transducerOf n starts finals lines =
       finals = finals;
       count = length lines;
       transitions = lines ++ replicate (mostTransitions - length lines) clearTransition;
+      useful = usefulSet n starts finals lines;
+    }
+
+-- the useful states of t, worked out
+abbrev pub usefulIn : Transducer → StateSet
+usefulIn t = usefulSet (t .states) (t .starts) (t .finals) (linesOf t)
+
+-- t, keeping them, whatever it kept
+unfoldable pub keeping : Transducer → Transducer
+keeping t =
+    record {
+      states = t .states;
+      starts = t .starts;
+      finals = t .finals;
+      count = t .count;
+      transitions = t .transitions;
+      useful = usefulIn t;
     }
 
 -- t with the line v behind its last

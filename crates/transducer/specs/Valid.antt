@@ -99,6 +99,7 @@ pub record Shaped (t : Transducer) : Type 0 where
   pub finals : length (t .finals .member) ≡ mostStates
   pub transitions : length (t .transitions) ≡ mostTransitions
   pub outputs : (l : ℕ) → l < mostTransitions → length (at t l .output) ≡ mostOutputs
+  pub useful : length (t .useful .member) ≡ mostStates
 
 -- what `valid` answers: whether the transducer keeps the rules; and that its arrays have their lengths
 pub record Tested (t : Transducer) (r : Bool) : Type 0 where

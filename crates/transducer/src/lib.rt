@@ -1,11 +1,10 @@
 // A finite transducer (document 01: a table) as a value: its types, its sets of states, the blank transducer, the test of its rules, and the test of
-// a word's bytes. The contracts cite specs/StateSet.antt, specs/Valid.antt, specs/Codes.antt and specs/Accepted.antt. What a transducer means, its paths
-// and its relation, is in specs/Paths.antt and the files after it, which the crates above cite.
+// a word's bytes. The contracts cite specs/StateSet.antt, specs/Valid.antt and specs/Codes.antt. What a transducer means, its paths and its relation, is
+// in specs/Paths.antt and the files after it, which the crates above cite.
 ghost use mathlib.Core.Path.{_≡_};
 ghost use Rattle.transducer.specs.StateSet.{has, withState, noStates};
 ghost use Rattle.transducer.specs.Transition.{asInput};
 ghost use Rattle.transducer.specs.Blank.{clearTransition, blankTransducer};
-ghost use Rattle.transducer.specs.Accepted.{Asked};
 
 pub mod codes;
 pub mod limits;
@@ -32,13 +31,14 @@ pub struct StateSet {
     pub member: [bool; limits::STATES],
 }
 
-// A transducer (document 01: a table) with the states 0 to states - 1 and the first `count` of `transitions`.
+// A transducer (document 01: a table) with the states 0 to states - 1 and the first `count` of `transitions`. It keeps the set of its useful states.
 pub struct Transducer {
     pub states: u8,
     pub starts: StateSet,
     pub finals: StateSet,
     pub count: u16,
     pub transitions: [Transition; limits::TRANSITIONS],
+    pub useful: StateSet,
 }
 
 impl OutputCode {
@@ -99,13 +99,6 @@ impl Transition {
     }
 }
 
-// What every entry point asks of a transducer's value first: whether it keeps the rules.
-pub fn accepted(t: Transducer) -> bool
-    ensures { λ r. ⌜ Asked t r ⌝ }
-{
-    validity::valid(t)
-}
-
 // The blank transducer: one state and nothing else.
 pub fn blank() -> Transducer
     ensures { λ r. ⌜ r ≡ blankTransducer ⌝ }
@@ -118,5 +111,6 @@ pub fn blank() -> Transducer
         finals: none,
         count: 0,
         transitions: [v; limits::TRANSITIONS],
+        useful: none,
     }
 }

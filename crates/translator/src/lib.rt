@@ -59,7 +59,7 @@ impl Translation {
 pub fn translate(t: Transducer, input: &[u8], out: &mut [u8]) -> Translation
     ensures { λ r. ⌜ Translated t (now (input .entry)) (now (out .entry)) (now (out .exit)) r ⌝ }
 {
-    if !transducer::accepted(t) {
+    if !useful::accepted(t) {
         return Translation::Invalid;
     }
     if limits::WORD < input.len() {

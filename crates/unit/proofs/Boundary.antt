@@ -26,7 +26,8 @@ use Rattle.answers.specs.Answers.{refusalCode, flagOf, numbersOf, translateAnsw
 use Rattle.unit.specs.Calls.{VerdictGiven, translateCode, TranslationGiven, AnswerIn, AcceptsGiven}
 use Rattle.unit.specs.Calls.{Flagged, StatesGiven, PairsGiven, DifferenceGiven, FileGiven, joinedCode, JoinGiven, EditGiven}
 use Rattle.unit.specs.Laws.{SameVerdict, Boundary}
-use Rattle.unit.proofs.Codes.{no-room, taken-code, code-taken, front, front-two}
+use Rattle.answers.proofs.Rooms.{no-room}
+use Rattle.unit.proofs.Codes.{taken-code, code-taken, front, front-two}
 use Rattle.unit.proofs.WordCalls.{accepts-agreement}
 use Rattle.unit.proofs.AlikeCalls.{alike-verdict, alike-translation}
 use Rattle.unit.proofs.JoinCalls.{join-number-told, join-record-told, second-told, few-records, joined-file, alike-join}

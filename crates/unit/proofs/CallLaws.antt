@@ -20,7 +20,8 @@ use Rattle.engine.specs.declared.FileTranslation.{FileTranslation}
 use Rattle.answers.specs.Answers.{refusalCode, fileCode, numbersOf, Given}
 use Rattle.answers.specs.Answers.{verdictAnswer, translateAnswer}
 use Rattle.unit.specs.Calls.{verdictCode, VerdictGiven, translateCode, TranslationGiven}
-use Rattle.unit.proofs.Codes.{room, no-room, no-record, code-zero, taken-code, code-taken}
+use Rattle.answers.proofs.Rooms.{room, no-room}
+use Rattle.unit.proofs.Codes.{no-record, code-zero, taken-code, code-taken}
 
 -- ---- the verdict
 

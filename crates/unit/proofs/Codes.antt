@@ -1,10 +1,9 @@
--- What a call returns for a list that lacks places and for a file; and the first numbers that it leaves in the answer list. Assumes nothing.
+-- What a call returns for a file; and the first numbers that it leaves in the answer list. Assumes nothing.
 use mathlib.Core.Path.{_≡_, refl, ap, _∙_}
 use mathlib.Core.List.{List, [], _∷_}
-use Prim.Native.Nat.{ℕ, _≤_, _<_}
+use Prim.Native.Nat.{ℕ}
 use native.Mathlib.Omega.{arith}
-use borrow.Author.Tests.{lt-ltb, le-ltb}
-use lib.ListN.{length, getD, take}
+use lib.ListN.{getD, take}
 use Rattle.buffers.specs.Put.{put}
 use Rattle.tablereader.specs.Outcome as outcome
 use Rattle.tablereader.specs.Reader.{readOf}
@@ -12,19 +11,7 @@ use Rattle.tablereader.specs.declared.Reading.{Reading}
 use Rattle.tablereader.proofs.Outcomes.{taken-record}
 use Rattle.engine.specs.Engine.{Taken}
 use Rattle.engine.specs.declared.Judgement.{Judgement}
-use Rattle.answers.specs.Answers.{refusalCode, fileCode, roomFault, flagOf, numbersOf}
-
--- ---- the places
-
--- a list that has the places is no refusal
-pub room : (n : ℕ) (list : List ℕ) (fault : ℕ) → n ≤ length list → roomFault n list fault ≡ 0
-unfolding roomFault
-room n list fault h = rw (le-ltb (length list) n h)
-
--- a list that lacks some is
-pub no-room : (n : ℕ) (list : List ℕ) (fault : ℕ) → length list < n → fault ≡ roomFault n list fault
-unfolding roomFault
-no-room n list fault h = rw (lt-ltb (length list) n h)
+use Rattle.answers.specs.Answers.{refusalCode, fileCode, flagOf, numbersOf}
 
 -- ---- the file
 

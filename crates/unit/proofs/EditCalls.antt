@@ -21,7 +21,8 @@ use Rattle.editfiles.proofs.FileLaws.{edit-of-file}
 use Rattle.editfiles.proofs.AnswerLaws.{number-none, refused-leaves, done-record}
 use Rattle.answers.specs.Answers.{refusalCode, editAnswer, Given}
 use Rattle.unit.specs.Calls.{editCode, EditGiven}
-use Rattle.unit.proofs.Codes.{room, no-room, no-record, code-zero, front}
+use Rattle.answers.proofs.Rooms.{room, no-room}
+use Rattle.unit.proofs.Codes.{no-record, code-zero, front}
 
 -- ---- the returns
 

@@ -30,7 +30,8 @@ use Rattle.editfiles.proofs.AnswerLaws.{full-number}
 use Rattle.answers.specs.Answers.{refusalCode, editAnswer}
 use Rattle.unit.specs.Calls.{editCode, EditGiven}
 use Rattle.unit.specs.Laws.{EditCalls, no-call, call, EditsOfLines}
-use Rattle.unit.proofs.Codes.{room, no-record}
+use Rattle.answers.proofs.Rooms.{room}
+use Rattle.unit.proofs.Codes.{no-record}
 use Rattle.unit.proofs.EditCalls.{edited-file}
 
 -- ---- one call
@@ -80,9 +81,9 @@ table-calls {f} {f′} taken (call {e = e} {edits = edits} {returned = numbers} 
     let shaped = read-shaped f in
     let one = call-there (tableOf f) e accepted shaped whole in
     let more = table-calls (next-taken whole taken full long h) rest in
-    let same = one-handed accepted shaped (one .answers) ∙ sym (next-table whole taken full long h) in
+    let same = one-handed accepted (one .answers) ∙ sym (next-table whole taken full long h) in
     let tables : Calls (one .answer .table) edits numbers (tableOf f′) = rw same (more .0) in
-    (row.call (one .answers) (returned whole taken full long h ∙ sym (one-number accepted shaped (one .answers))) tables, more .1)
+    (row.call (one .answers) (returned whole taken full long h ∙ sym (one-number accepted (one .answers))) tables, more .1)
 
 pub edit-rows : {f f′ : List ℕ} {edits : List Edit} {returned : List ℕ} → Taken f → EditCalls f edits returned f′ → EditsOfLines f edits returned f′
 edit-rows {f} {f′} {edits} taken calls =

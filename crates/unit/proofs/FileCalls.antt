@@ -28,7 +28,8 @@ use Rattle.engine.specs.Engine.{Taken, tableOf}
 use Rattle.answers.specs.Answers.{fileCode, roomFault, kindOf, Given}
 use Rattle.answers.specs.Answers.{differenceAnswer, writeAnswer}
 use Rattle.unit.specs.Calls.{DifferenceGiven, writeCode, FileGiven}
-use Rattle.unit.proofs.Codes.{room, no-room, no-record, code-taken}
+use Rattle.answers.proofs.Rooms.{room, no-room}
+use Rattle.unit.proofs.Codes.{no-record, code-taken}
 
 -- ---- the difference
 

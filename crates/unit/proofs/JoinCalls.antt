@@ -18,7 +18,8 @@ use Rattle.joinfiles.specs.declared.FileJoin.{FileJoin}
 use Rattle.joinfiles.proofs.JoinLaws.{joined-record, refused-leaves, done-record, done-second, files-in-series, alike-files-joined}
 use Rattle.answers.specs.Answers.{refusalCode, secondFlag, recordsTold, joinCode, joinAnswer, flagOf, JoinEnded}
 use Rattle.unit.specs.Calls.{joinedCode, JoinGiven}
-use Rattle.unit.proofs.Codes.{room, no-room, no-record, code-zero, front}
+use Rattle.answers.proofs.Rooms.{room, no-room}
+use Rattle.unit.proofs.Codes.{no-record, code-zero, front}
 
 -- ---- what can be told from a refusal
 

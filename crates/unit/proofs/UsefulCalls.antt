@@ -1,19 +1,22 @@
 -- How the calls for useful states and useful pairs meet their contracts: a law for each of their returns. Assumes nothing.
-use mathlib.Core.Path.{_≡_, refl, sym, _∙_}
+use mathlib.Core.Path.{_≡_, refl, sym, ap, _∙_}
 use mathlib.Core.List.{List, [], _∷_, map}
-use mathlib.Core.Logic.{_≢_}
+use mathlib.Core.Logic.{_≢_, _↔_}
 use Prim.Native.Nat.{ℕ, _≤_, _<_}
 use native.Mathlib.Omega.{arith}
 use lib.ListN.{length}
 use Rattle.buffers.specs.Put.{put}
-use Rattle.transducer.specs.Limits.{mostStates}
 use Rattle.transducer.specs.Refusals.{tooShort, answerTooShort}
-use Rattle.transducer.specs.Useful.{UsefulPair}
-use Rattle.transducer.proofs.RefusalLaws.{this-one, none-then, no-more}
-use Rattle.transducer.proofs.StateSetLaws.{has-below}
+use Rattle.transducer.specs.StateSet.{In}
+use Rattle.transducer.specs.Useful.{UsefulState, UsefulPair}
+use Rattle.transducer.specs.declared.StateSet.{StateSet}
+use Rattle.transducer.proofs.RefusalLaws.{this-one, none-then, only-one, no-more}
+use Rattle.transducer.proofs.StateSetLaws.{Long, has-below}
+use Rattle.transducer.proofs.AcceptedLaws.{accepted-kept}
 use Rattle.tablereader.specs.Reader.{readOf}
 use Rattle.tablereader.specs.declared.Reading.{Reading}
 use Rattle.tablereader.proofs.Validity.{read-accepted}
+use Rattle.tablereader.proofs.ReadLaws.{read-shaped}
 use Rattle.useful.specs.UsefulStates.{UsefulStatesOf}
 use Rattle.useful.specs.declared.UsefulStates.{UsefulStates}
 use Rattle.product.specs.Numbers as pair
@@ -23,10 +26,10 @@ use Rattle.pairs.specs.declared.UsefulPairs.{UsefulPairs}
 use Rattle.pairs.proofs.PairSetLaws.{pair-flag}
 use Rattle.functionality.proofs.VerdictLaws.{counted}
 use Rattle.engine.specs.Engine.{tableOf}
-use Rattle.answers.specs.Answers.{fileCode, flagOf}
+use Rattle.answers.specs.Answers.{fileCode, flagOf, StatesEnded}
 use Rattle.answers.specs.Answers.{pairsAnswer}
 use Rattle.unit.specs.Calls.{Flagged, statesCode, StatesGiven, pairsCode, PairsGiven}
-use Rattle.unit.proofs.Codes.{room, no-room}
+use Rattle.answers.proofs.Rooms.{room, no-room}
 
 -- ---- useful states
 
@@ -35,32 +38,33 @@ module _ {f flags : List ℕ} where
   unfolding statesCode
   states-refused e n = record { code = this-one _ e n; refused = λ _. refl; done = λ z. absurd (n z) }
 
-  pub states-short : fileCode f ≡ 0 → length flags < mostStates → StatesGiven f flags flags tooShort
+  -- the flags are those of the file's useful states
+  pub states-ended : {flags′ : List ℕ} {s : StateSet} {r : ℕ} → fileCode f ≡ 0 → Long s → ((q : ℕ) → In s q ↔ UsefulState (tableOf f) q)
+      → StatesEnded s flags flags′ r → StatesGiven f flags flags′ r
   unfolding statesCode
-  states-short z h =
+  states-ended {s = s} z long useful h =
       record {
-        code = none-then _ z (this-one _ (no-room _ _ _ h) (λ e. omega arith));
-        refused = λ _. refl;
-        done = λ e. absurd (omega arith);
-      }
-
-  pub states-given : {reading : Reading} {flags′ : List ℕ} {r : UsefulStates} → fileCode f ≡ 0 → mostStates ≤ length flags → reading ≡ readOf f
-      → UsefulStatesOf (reading .table) r → flags′ ≡ put flags 0 (map flagOf (r .states .member)) → StatesGiven f flags flags′ 0
-  unfolding statesCode
-  states-given {r = r} z h reads found e =
-      let useful = rw reads at found in
-      record {
-        code = none-then _ z (none-then _ (room _ _ _ h) no-more);
-        refused = λ n. absurd (n refl);
-        done = λ _. record {
-          members = r .states .member;
-          size = useful .long;
-          exactly = λ q low.
-              let flag = has-below (r .states) q low in
-              let exact = useful .members (read-accepted f) q in (λ k. exact .0 (flag ∙ k), λ u. sym flag ∙ exact .1 u);
-          list = e;
+        code = none-then _ z (only-one (h .code));
+        refused = h .refused;
+        done = λ e. record {
+          members = s .member;
+          size = long;
+          exactly = λ q low. let flag = has-below s q low in (λ k. useful q .0 (flag ∙ k), λ u. sym flag ∙ useful q .1 u);
+          list = h .shown e;
         };
       }
+
+  -- found by `useful_states`
+  pub states-found : {reading : Reading} {flags′ : List ℕ} {found : UsefulStates} {r : ℕ} → fileCode f ≡ 0 → reading ≡ readOf f
+      → UsefulStatesOf (reading .table) found → StatesEnded (found .states) flags flags′ r → StatesGiven f flags flags′ r
+  states-found z reads found h = let useful = rw reads at found in states-ended z (useful .long) (useful .members (read-accepted f)) h
+
+  -- or kept, and looked at
+  pub states-kept : {reading : Reading} {flags′ : List ℕ} {s : StateSet} {r : ℕ} → fileCode f ≡ 0 → reading ≡ readOf f → s ≡ reading .table .useful
+      → StatesEnded s flags flags′ r → StatesGiven f flags flags′ r
+  states-kept {s = s} z reads look h =
+      let same : s ≡ tableOf f .useful = look ∙ ap (λ (x : Reading). x .table .useful) reads in
+      states-ended z (read-shaped f .useful) (accepted-kept (tableOf f) (read-accepted f)) (rw same at h)
 
 -- ---- useful pairs
 

@@ -27,7 +27,8 @@ use Rattle.answers.specs.Answers.{refusalCode, fileCode, flagOf, Given}
 use Rattle.answers.specs.Answers.{translateAnswer, acceptsAnswer}
 use Rattle.unit.specs.Calls.{translateCode, TranslationGiven, acceptsCode, AnswerIn, AcceptsGiven}
 use Rattle.unit.specs.Laws.{OutputGiven}
-use Rattle.unit.proofs.Codes.{room, no-room, no-record, code-zero, code-taken, front}
+use Rattle.answers.proofs.Rooms.{room, no-room}
+use Rattle.unit.proofs.Codes.{no-record, code-zero, code-taken, front}
 
 -- ---- how the contract is met
 

@@ -10,7 +10,6 @@ ghost use Rattle.answers.specs.Answers.{fileCode};
 ghost use Rattle.unit.specs.Calls.{VerdictGiven, TranslationGiven, AcceptsGiven, StatesGiven, PairsGiven, DifferenceGiven};
 ghost use Rattle.unit.specs.Calls.{FileGiven, JoinGiven, EditGiven};
 use product::steps::PAIRS;
-use transducer::limits;
 use transducer::refusals;
 
 // The refusals of a list that is too short, as the exported functions return them.
@@ -105,7 +104,7 @@ pub extern "C" fn yotselina_accepts(
     answers::give(answer, &numbers, acceptance.number() as u16, 0)
 }
 
-// Puts a flag for each of limits::STATES states to the front of `flags`: whether it is useful.
+// Puts a flag for each of transducer::limits::STATES states to the front of `flags`: whether it is useful.
 #[no_mangle]
 pub extern "C" fn yotselina_useful_states(file: &[u8], flags: &mut [u8]) -> u32
     ensures { λ r. ⌜ StatesGiven (now (file .entry)) (now (flags .entry)) (now (flags .exit)) r ⌝ }
@@ -116,15 +115,26 @@ pub extern "C" fn yotselina_useful_states(file: &[u8], flags: &mut [u8]) -> u32
     if refused != 0 {
         return refused;
     }
-    if flags.len() < limits::STATES {
-        return TOO_SHORT;
-    }
     let table = reading.table;
     let found = useful::useful_states(table);
     let states = found.states;
-    let member = states.member;
-    answers::put_flags(flags, &member);
-    0
+    answers::give_states(flags, states)
+}
+
+// The panel's look: the same flags, from the set that the table keeps, which is not worked out again.
+#[no_mangle]
+pub extern "C" fn yotselina_look(file: &[u8], flags: &mut [u8]) -> u32
+    ensures { λ r. ⌜ StatesGiven (now (file .entry)) (now (flags .entry)) (now (flags .exit)) r ⌝ }
+{
+    let reading = tablereader::read(file);
+    let outcome = reading.outcome;
+    let refused = answers::of_file(outcome);
+    if refused != 0 {
+        return refused;
+    }
+    let table = reading.table;
+    let states = panel::look(table);
+    answers::give_states(flags, states)
 }
 
 // Puts a flag for each of PAIRS pairs of states to the front of `flags`: whether it is useful; the answer is u.

@@ -65,7 +65,7 @@ impl Acceptance {
 pub fn accepts(t: Transducer, input: &[u8], output: &[u8]) -> Acceptance
     ensures { λ r. ⌜ Tested t (now (input .entry)) (now (output .entry)) r ⌝ }
 {
-    if !transducer::accepted(t) {
+    if !useful::accepted(t) {
         return Acceptance::Invalid;
     }
     if !((input.len() <= limits::INPUT) & (output.len() <= limits::OUTPUT)) {

@@ -1,13 +1,16 @@
 -- `read` meets its contract: it is the definition, with what the calls ensure. Assumes nothing.
-use mathlib.Core.Path.{_≡_}
+use mathlib.Core.Path.{_≡_, refl, sym, subst}
 use mathlib.Core.List.{List}
 use Prim.Native.Nat.{ℕ}
 use native.Mathlib.Omega.{arith}
 use borrow.Author.Tests.{eq-eqb, ne-eqb}
 use denote.Ref.{now}
+use Rattle.transducer.specs.Valid.{Valid}
+use Rattle.transducer.specs.declared.Transducer.{Transducer}
 use Rattle.tablereader.specs.Header.{headerOf}
-use Rattle.tablereader.specs.Reader.{startsOf, finalsOf, transitionsOf, outcomeWith, tableWith, readOf}
+use Rattle.tablereader.specs.Reader.{startsOf, finalsOf, transitionsOf, outcomeWith, recordsWith, tableWith, readOf}
 use Rattle.tablereader.proofs.HeaderRecord.{Counted, counted}
+use Rattle.tablereader.proofs.Validity.{records-valid}
 use borrow.Author.Needs.{needs}
 use Rattle.tablereader.proofs.read.Statement.{statement}
 use Rattle.tablereader.proofs.read.Tie as tie
@@ -57,8 +60,8 @@ read-transitions-requires c κs = let h = counts (header-read (starts-read (c .b
 add-outcome-of : tie.Need-add-outcome-of
 add-outcome-of c = let h = counts (first-call (c .before)) in omega arith
 
-cast-t28 : tie.Need-cast-t28
-cast-t28 c = let h = counts (first-call (header-checked (c .before .before .before .before .before .before))) in omega arith
+cast-t30 : tie.Need-cast-t30
+cast-t30 c = let h = counts (first-call (header-checked (c .before .before .before .before .before .before))) in omega arith
 
 abbrev text-of : tie.After-then4 → List ℕ
 text-of c = now (first-call (header-checked c) .before .before .args .text)
@@ -83,23 +86,54 @@ outcome-read c =
       starts-read (finals-read calls) .read-states .ensures,
     ))
 
-returns : tie.Need-returns
-unfolding readOf tableWith startsOf finalsOf transitionsOf
-returns c =
-    let number = c .before .before .before .before .before in
-    let checked = header-checked (number .before) in
+-- past the test of the outcome, where nothing is refused
+abbrev taken : tie.After-empty → tie.After-number
+taken c = c .before .before .before .before .before .before
+
+-- what was read of the records
+abbrev given : tie.After-empty → Transducer
+given c =
+    let calls = transitions-read (header-checked (taken c .before)) in
+    let counts = first-call (header-checked (taken c .before)) .read-header .result in
+    record {
+      states = counts .states;
+      starts = starts-read (finals-read calls) .read-states .result .set;
+      finals = finals-read calls .read-states2 .result .set;
+      count = counts .transitions;
+      transitions = calls .read-transitions .result .transitions;
+      useful = c .empty .result;
+    }
+
+-- it is what the definition has of them
+records-read : (c : tie.After-empty) → given c ≡ recordsWith (text-of (taken c .before)) (headerOf (text-of (taken c .before)))
+unfolding recordsWith startsOf finalsOf transitionsOf
+records-read c =
+    let checked = header-checked (taken c .before) in
     let calls = transitions-read checked in
-    rw (
-      ← outcome-read (number .before),
-      ← number .number .ensures,
-      eq-eqb _ _ (c .before .before .before .before .if1 .taken),
-      ← first-call checked .read-header .ensures,
-    )
+    rw (← first-call checked .read-header .ensures)
     (simp (
       calls .read-transitions .ensures,
       finals-read calls .read-states2 .ensures,
       starts-read (finals-read calls) .read-states .ensures,
+      c .empty .ensures,
     ))
+
+keep-requires : tie.Need-keep-requires
+keep-requires c κs =
+    let text = text-of (taken c .before) in
+    subst Valid (sym (records-read c)) (records-valid text (headerOf text) (counted text (headerOf text) refl))
+
+returns : tie.Need-returns
+unfolding readOf tableWith
+returns c =
+    let number = taken (c .before) in
+    rw (
+      ← outcome-read (number .before),
+      ← number .number .ensures,
+      eq-eqb _ _ (c .before .before .before .before .before .before .if1 .taken),
+      ← records-read (c .before),
+      c .keep .ensures,
+    )
 
 returns-2 : tie.Need-returns-2
 unfolding readOf
@@ -133,7 +167,9 @@ read-spec =
     (λ c κs. search needs)
     (λ c κs. search needs)
     (λ c κs. search needs)
-    cast-t28
+    cast-t30
+    (λ c κs. search needs)
+    keep-requires
     (λ c κs. search needs)
     returns
     returns-2)

@@ -32,6 +32,7 @@ returns c =
             finals = search needs;
             transitions = simp length-map at (c .before .before .before .before .before .good .0 .1 .1 .1 .1 .1 .1 .0 .1 .0 .1);
             outputs = places .1;
+            useful = search needs;
           };
     }
 
