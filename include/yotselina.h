@@ -130,7 +130,7 @@ extern "C" {
  *
  * Returns 0 if the file is taken. Refusals: 1 to 6, each with its record.
  * Writes nothing.
- * Stack: 20,480 bytes.
+ * Stack: 24,576 bytes.
  */
 uint32_t yotselina_check(const uint8_t *file, size_t file_length);
 
@@ -217,6 +217,19 @@ uint32_t yotselina_accepts(const uint8_t *file, size_t file_length,
 uint32_t yotselina_useful_states(const uint8_t *file, size_t file_length, uint8_t *flags, size_t flags_length);
 
 /*
+ * yotselina_look - the panel's look: the same flags as those of yotselina_useful_states, from the set that a table keeps
+ *
+ *   file, file_length   the bytes of the table file
+ *   flags               at least YOTSELINA_STATES places: flag q is 1 if state q is useful, else 0 (also where the table has no state q)
+ *
+ * Reading a table works the set out once; the look shows it as it stands, and checks nothing.
+ *
+ * Refusals: 1 to 6 with the record; 7 if flags has fewer than YOTSELINA_STATES places.
+ * Stack: 24,576 bytes.
+ */
+uint32_t yotselina_look(const uint8_t *file, size_t file_length, uint8_t *flags, size_t flags_length);
+
+/*
  * yotselina_useful_pairs - the pairs of states that two accepting paths which read the same word pass through together
  *
  *   file, file_length   the bytes of the table file
@@ -289,7 +302,7 @@ uint32_t yotselina_write(const uint8_t *file, size_t file_length,
  *
  * Refusals: 100; 1 to 6 with the record, of the first file, then of the second (YOTSELINA_SECOND); 15, 16, 17; 7 if the joined file does not fit,
  * never with YOTSELINA_FILE places.
- * Stack: 65,536 bytes.
+ * Stack: 81,920 bytes.
  */
 uint32_t yotselina_join(const uint8_t *first, size_t first_length,
                         const uint8_t *second, size_t second_length,
@@ -314,7 +327,7 @@ uint32_t yotselina_join(const uint8_t *first, size_t first_length,
  *
  * Refusals: 100; 1 to 6 with the record; 7 if line has fewer than YOTSELINA_LINE places; 19; 17; 7 if the file does not fit, never with
  * YOTSELINA_FILE places.
- * Stack: 32,768 bytes.
+ * Stack: 40,960 bytes.
  */
 uint32_t yotselina_append(const uint8_t *file, size_t file_length,
                           const uint8_t *line, size_t line_length,
@@ -335,7 +348,7 @@ uint32_t yotselina_append(const uint8_t *file, size_t file_length,
  *
  * Refusals: 100; 1 to 6 with the record; 18 for any number from the count of lines on; 7 if the file does not fit, never with YOTSELINA_FILE
  * places.
- * Stack: 32,768 bytes.
+ * Stack: 40,960 bytes.
  */
 uint32_t yotselina_remove(const uint8_t *file, size_t file_length,
                           size_t number,

@@ -76,7 +76,7 @@ def compare_calls(library, findings, kind, index):
     random = randomness(GROUP, "library", kind, index)
     one, other, expected = pair_of(findings, random, kind)
     tests = generate.word_tests(random, one) + [generate.broken_words(random, one)]
-    for name, *words in (("verdict",), ("useful_states",), ("useful_pairs",), *(("translate", word) for word in words_for(random, one)),
+    for name, *words in (("verdict",), ("useful_states",), ("look",), ("useful_pairs",), *(("translate", word) for word in words_for(random, one)),
                          *(("accepts", *test) for test in tests)):
         calls = [library.call(random, name, table_file(transducer), *words) for transducer in (one, other)]
         for call in calls:

@@ -203,11 +203,16 @@ static void write_files(enum writer writer, const struct sample *given, size_t a
     write_file(writer, given, YOTSELINA_FILE, answers - 1);
 }
 
-static void useful_states(struct text table, size_t places)
+/* What shows the useful states: as they are worked out, as the table keeps them. */
+enum shower { USEFUL_STATES, LOOK };
+static const char *const showers[] = {"useful_states", "look"};
+
+static void show_states(enum shower shower, struct text table, size_t places)
 {
     uint8_t *flags = (uint8_t *)lend(places, 1);
-    uint32_t returned = yotselina_useful_states(table.bytes, table.length, flags, places);
-    printf("useful_states %zu", places);
+    uint32_t returned = shower == LOOK ? yotselina_look(table.bytes, table.length, flags, places)
+                                       : yotselina_useful_states(table.bytes, table.length, flags, places);
+    printf("%s %zu", showers[shower], places);
     print_returned(returned);
     if (!returned)
         print_bytes(flags, YOTSELINA_STATES);
@@ -259,8 +264,10 @@ static void all_calls(const struct sample *given)
     write_files(JOIN, given, YOTSELINA_JOIN_ANSWER);
     write_files(APPEND, given, YOTSELINA_EDIT_ANSWER);
     write_files(REMOVE, given, YOTSELINA_EDIT_ANSWER);
-    useful_states(table, YOTSELINA_STATES);
-    useful_states(table, YOTSELINA_STATES - 1);
+    show_states(USEFUL_STATES, table, YOTSELINA_STATES);
+    show_states(USEFUL_STATES, table, YOTSELINA_STATES - 1);
+    show_states(LOOK, table, YOTSELINA_STATES);
+    show_states(LOOK, table, YOTSELINA_STATES - 1);
     useful_pairs(table, YOTSELINA_PAIRS, YOTSELINA_PAIRS_ANSWER);
     useful_pairs(table, YOTSELINA_PAIRS - 1, YOTSELINA_PAIRS_ANSWER);
     useful_pairs(table, YOTSELINA_PAIRS, YOTSELINA_PAIRS_ANSWER - 1);

@@ -1,6 +1,7 @@
 """Comparisons of the library's calls, made through ctypes, with what they owe (owed.py)."""
 
 import threading
+from copy import copy
 from itertools import permutations
 
 import cases
@@ -11,9 +12,9 @@ import series
 from compare import DAMAGED_KINDS, as_codes, randomness
 from library import CALLS, OF_FILES, Call, Library, build, full_sizes
 from listing import Refusal, parse_verdict
-from owed import CLASH, COMPARISONS, FIRST_AHEAD, LEVEL, SECOND_AHEAD, faults_of, table_of
+from owed import CLASH, COMPARISONS, FIRST_AHEAD, LEVEL, SECOND_AHEAD, faults_of, flags_of, table_of
 from settings import share
-from transducer import LINE_PLACES, MAX_CODE, MAX_WORD, places_of, table_file
+from transducer import LINE_PLACES, MAX_CODE, MAX_STATES, MAX_WORD, places_of, table_file
 from workers import spread
 
 MIXED = 1_500  # files with random damages, words and sizes
@@ -40,6 +41,17 @@ def check(findings, group, table, call, note=""):
     done = "done" if call.name != "accepts" else "yes" if said_yes(call) else "no"
     refused = refusal and f"refused {refusal.number}{' of the second file' * refusal.second}"
     findings.count(f"library, {call.name}", refused or done)
+    return not faults
+
+
+def look_at(library, findings, random, group, content, useful, note=""):
+    """The look at a file whose useful states are known: exactly these flags, and all else that is lent as it was. Returns whether it is so. Whatever
+    is drawn after it is the same as without it."""
+    call = library.call(copy(random), "look", content)
+    faults = [f"returned {call.refusal()}"] if call.returned else []
+    faults += [f"{lent} holds something else than it owes" for lent in call.changed({"flags": flags_of(useful)})]
+    findings.check(f"library, {group}", faults, content, f"useful states: {sorted(useful)}\n{note}".rstrip())
+    findings.count(f"library, {group}, useful states", f"{len(useful)}:" if len(useful) in (0, 1, MAX_STATES) else f"2 to {MAX_STATES - 1}:")
     return not faults
 
 
@@ -147,7 +159,7 @@ ORDERS = (
     ("translate", (D_FILE, UNREAD), {"output": 0}, 11, 0),
     ("translate", (D_FILE, b"\1\2"), {"output": 1}, 7, 0),
     ("translate", (D_FILE, b"\1\2"), {"output": 0}, 7, 0),
-    *((name, (file,), {lent: places - 1}, 7, 0) for name in ("verdict", "useful_states", "useful_pairs") for file in (P_FILE, D_FILE)
+    *((name, (file,), {lent: places - 1}, 7, 0) for name in ("verdict", "useful_states", "look", "useful_pairs") for file in (P_FILE, D_FILE)
       for lent, places in full_sizes(name).items() if lent != "answer"),
     *(("write", (file,), {"out": len(file) - 1}, 7, 0) for file in (P_FILE, cases.LONGEST)),
 )

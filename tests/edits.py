@@ -1,5 +1,5 @@
 """Comparisons of the library's edits (yotselina_append, yotselina_remove): lists of them with the lists of lines that they make, each call with what
-it owes (owed.py), and files that are known by hand."""
+it owes (owed.py), and files that are known by hand; and of the look (yotselina_look) at each file that edits, or edits and joins, have made."""
 
 from itertools import product
 
@@ -7,7 +7,8 @@ import cases
 import generate
 import lines
 import reference
-from boundary import as_note, check, same_refusal, written_by
+import series
+from boundary import as_note, check, look_at, same_refusal, written_by
 from cases import LINE, header, table
 from compare import randomness, size_name
 from library import Library, build
@@ -25,6 +26,8 @@ LISTS = 5  # lists from each named table
 MANY = 40  # lines: of a table with fewer, verdict and translations are asked for after each edit of a list
 ASKED = 20  # of any other after one in so many, and after the last
 PAST = 5  # edits beyond a full table, and beyond an empty one
+MAKINGS = 150  # of edits and joins in any order
+CALLS_OF_A_MAKING = 12
 EDITS = {"append": reference.append, "remove": reference.remove}
 
 # 256 different lines, some with each count of outputs
@@ -56,25 +59,39 @@ def by_text(content, name, given):
 class Edited:
     """A file that the library edits, and beside it the table that the reference's edits make of the table at first."""
 
+    group = GROUP
+
     def __init__(self, library, findings, random, transducer):
         self.library, self.findings, self.random = library, findings, random
-        self.table, self.content = transducer, table_file(transducer)
+        self.table, self.content, self.useful = transducer, table_file(transducer), generate.useful_states(transducer)
 
     def edit(self, what, name, given):
         """One edit: what it owes, a refusal and that nothing which is lent has changed, or the whole file. Returns whether all is so."""
         before, note = self.content, f"{what}\n{as_note([given])}"
         call = self.library.call(self.random, name, before, given)
-        self.findings.count(f"library, {GROUP}, {name}", what)
-        if not check(self.findings, f"{GROUP}, {name}", table_of(before), call, note):
+        self.findings.count(f"library, {self.group}, {name}", what)
+        if not check(self.findings, f"{self.group}, {name}", table_of(before), call, note):
             return False
         if call.returned:
             return True
-        self.content, self.table = written_by(call), EDITS[name](self.table, given)
-        expected = table_file(self.table)
-        self.findings.check_apart(ITSELF, [] if by_text(before, name, given) == expected else ["by the text it is another file"], before, note)
-        faults = [] if self.content == expected else ["not the file of the edited table"]
-        self.findings.check(f"library, {GROUP}, the file after each edit of a list that is taken", faults, before, note)
-        return not faults
+        made = EDITS[name](self.table, given)
+        faults = [] if by_text(before, name, given) == table_file(made) else ["by the text it is another file"]
+        self.findings.check_apart(ITSELF, faults, before, note)
+        return self.take(call, made, note)
+
+    def take(self, call, made, note):
+        """The file that a call wrote, and the table that the reference makes: the one is the other's, and the look at it shows the table's useful
+        states. Returns whether it is so."""
+        before, held = self.content, self.useful
+        self.content, self.table, self.useful = written_by(call), made, generate.useful_states(made)
+        faults = [] if self.content == table_file(made) else ["not the file of the table that the reference makes"]
+        self.findings.check(f"library, {self.group}, the file after each call that is taken", faults, before, note)
+        self.findings.count(f"library, {self.group}, the useful states after each call that is taken", "others" if held != self.useful else "the same")
+        return not faults and self.look(self.useful, "look at each file that is written", f"{call.name}, {note}")
+
+    def look(self, useful, what, note):
+        """The look at the file shows these states."""
+        return look_at(self.library, self.findings, self.random, f"{self.group}, {what}", self.content, useful, note)
 
     def ask(self):
         """Verdict and translations of the edited file, as of any other."""
@@ -159,6 +176,108 @@ def compare_bytes(library, findings, line):
         for at, value in product(range(LINE_PLACES), range(256)):
             places = lines.changed(places_of(line), at, value)
             check(findings, f"{GROUP}, every byte", table_of(content), library.call(random, "append", content, places), as_note([places]))
+
+
+# --- the look at what edits and joins make ---------------------------------------------------------------------------
+
+
+def a_line(source, target, code=1, *output):
+    """The places of a line."""
+    return places_of(Transition(source, target, code, output))
+
+
+def in_a_row(*states):
+    """Lines from each state to the next."""
+    return [(source, target, 1) for source, target in zip(states, states[1:])]
+
+
+# what it is about, the table, its useful states; edits, with the useful states after each
+LOOKS = (
+    ("a way to the final state", table(4, [0], [3]), (), (
+        ("append", a_line(0, 1), ()), ("append", a_line(1, 3), (0, 1, 3)), ("append", a_line(2, 3), (0, 1, 3)), ("append", a_line(0, 2), (0, 1, 2, 3)),
+        ("remove", 0, (0, 2, 3)), ("remove", 0, (0, 2, 3)), ("remove", 0, ()))),
+    ("lines of no accepting path", table(4, [0], [1], (0, 1, 1), (0, 2, 1), (3, 1, 1), (2, 2, 1), (3, 2, 1)), (0, 1), (
+        ("remove", 4, (0, 1)), ("remove", 3, (0, 1)), ("remove", 1, (0, 1)), ("remove", 1, (0, 1)), ("remove", 0, ()))),
+    ("a line that is there twice", table(2, [0], [1], (0, 1, 1, 5), (0, 1, 1, 5)), (0, 1), (
+        ("remove", 0, (0, 1)), ("remove", 0, ()), ("append", a_line(0, 1, 1, 5), (0, 1)))),
+    ("start and final state in one", table(3, [1], [1]), (1,), (
+        ("append", a_line(1, 1), (1,)), ("append", a_line(1, 2), (1,)), ("append", a_line(0, 1), (1,)), ("append", a_line(2, 1), (1, 2)),
+        ("append", a_line(2, 0), (0, 1, 2)), ("remove", 1, (1,)))),
+    ("a round that does not finish", table(4, [0], [3], (0, 3, 1)), (0, 3), (
+        ("append", a_line(0, 1), (0, 3)), ("append", a_line(1, 2), (0, 3)), ("append", a_line(2, 1), (0, 3)), ("append", a_line(2, 3), (0, 1, 2, 3)),
+        ("remove", 0, (0, 1, 2, 3)), ("remove", 3, ()))),
+    ("lines that read and write nothing", table(3, [0], [2], (0, 1, 0), (1, 2, 0)), (0, 1, 2), (
+        ("remove", 1, ()), ("append", a_line(0, 2, 0), (0, 2)), ("append", a_line(1, 2, 0), (0, 1, 2)))),
+    ("no start state", table(2, [], [1]), (), (("append", a_line(0, 1), ()), ("append", a_line(1, 0), ()), ("remove", 0, ()))),
+    ("no final state", table(2, [0], []), (), (("append", a_line(0, 1), ()), ("append", a_line(1, 0), ()), ("remove", 0, ()))),
+    ("32 states in a row", table(32, [0], [31], *in_a_row(*range(31))), (), (
+        ("append", a_line(30, 31), range(32)), ("remove", 15, ()), ("append", a_line(15, 31), (*range(16), 31)), ("append", a_line(15, 16), range(32)),
+        ("remove", 0, ()))),
+    ("32 states in a row, from the last", table(32, [31], [0], *in_a_row(*range(31, 0, -1))), (), (
+        ("append", a_line(1, 0), range(32)), ("remove", 0, ()), ("append", a_line(31, 0), (0, 31)))),
+    ("the last state alone", table(32, [31], [31]), (31,), (
+        ("append", a_line(31, 0), (31,)), ("append", a_line(0, 31), (0, 31)), ("remove", 0, (31,)), ("remove", 0, (31,)))),
+    ("the 256th line", table(3, [0], [2], *[(0, 1, 1)] * 255), (), (("append", a_line(1, 2), (0, 1, 2)), ("remove", 255, ()))),
+    ("the first of 256 lines", table(3, [0], [2], (1, 2, 1), *[(0, 1, 1)] * 255), (0, 1, 2), (("remove", 0, ()), ("append", a_line(1, 2), (0, 1, 2)))),
+)
+
+
+def compare_looks(library, findings):
+    """Lists of edits after each of which the useful states are known by hand; the reference, too, must have these."""
+    random, what = randomness(GROUP, "looks"), "look, known states"
+    for title, transducer, useful, edits in LOOKS:
+        edited = Edited(library, findings, random, transducer)
+        edited.look(useful, what, title)
+        for name, given, after in edits:
+            if not edited.edit("to look at", name, given):
+                break
+            edited.look(after, what, f"{title}, {name}\n{as_note([given])}")
+            findings.check_apart(ITSELF, [] if edited.useful == set(after) else [f"other useful states: {edited.useful}"], edited.content, title)
+
+
+class Made(Edited):
+    """A file that edits and joins make, in any order."""
+
+    group = "makings"
+
+    def join(self, what, pair):
+        """The file joined with another that stands before it or behind it: like an edit."""
+        files = tuple(map(table_file, pair))
+        call = self.library.call(self.random, "join", *files)
+        note = f"{what}\nthe second file:\n{files[1].decode()}"
+        self.findings.count(f"library, {self.group}, join", what)
+        if not check(self.findings, f"{self.group}, join", table_of(files[0]), call, note):
+            return False
+        return bool(call.returned) or self.take(call, reference.join(*pair), note)
+
+    def make(self, growing):
+        """An edit or a join; then what yotselina_useful_states works out must be what the look shows. Returns whether all is so."""
+        kind = self.random.random()
+        if kind < 0.3:
+            done = self.join("another behind it", series.put_behind(self.random, self.table))
+        elif kind < 0.5:
+            done = self.join("another before it", series.put_before(self.random, self.table))
+        else:
+            done = self.edit(*lines.any_edit(self.random, self.table, growing))
+        calls = [self.library.call(self.random, name, self.content) for name in ("look", "useful_states")]
+        shown, found = ((call.returned, call.lent["flags"].items(MAX_STATES)) for call in calls)
+        faults = [] if shown == found else [f"the look shows {shown}, yotselina_useful_states {found}"]
+        self.findings.check(f"library, {self.group}, look and useful_states show the same", faults, self.content)
+        return done and not faults
+
+
+def compare_making(library, findings, index):
+    """Edits and joins of a generated table, often of one with at most one code on a line; ends with a blank table, which no call makes useful."""
+    random = randomness("makings", index)
+    kinds = list(generate.KINDS)
+    transducer, _ = generate.KINDS[kinds[index % len(kinds)]][1](random)
+    if random.random() < 0.6:
+        transducer = transducer._replace(transitions=tuple(line._replace(output=line.output[:1]) for line in transducer.transitions))
+    made, growing = Made(library, findings, random, transducer), random.choice((0.3, 0.5, 0.7))
+    for _ in range(CALLS_OF_A_MAKING):
+        if not made.make(growing) or made.table == reference.BLANK:
+            break
+    findings.count("library, makings, end", "blank" if made.table == reference.BLANK else "not blank")
 
 
 # --- known files -----------------------------------------------------------------------------------------------------
@@ -260,5 +379,6 @@ def run(findings):
     jobs += [(compare_list, name, index) for name in NAMED for index in range(share(LISTS))]
     jobs += [(compare_filled, *filled) for filled in FILLED] + [(compare_bytes, line) for line in LINES]
     jobs += [(compare, name) for compare in (compare_each, compare_ways) for name in NAMED]
-    jobs += [(compare_refusals, *refused) for refused in REFUSED] + [(compare_known,)]
+    jobs += [(compare_refusals, *refused) for refused in REFUSED] + [(compare_known,), (compare_looks,)]
+    jobs += [(compare_making, index) for index in range(share(MAKINGS))]
     spread(Library, jobs, findings)

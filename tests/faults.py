@@ -24,8 +24,8 @@ GROUP = "library, seeded fault is found"
 TYPES = {c_uint8: "uint8_t", c_uint16: "uint16_t", c_uint64: "uint64_t"}
 KINDS = ("random, small", "most lines read nothing", "two copies, a code changed", "branches", "coprime cycles", "deterministic")
 TABLES, MIXED = 2, 10
-# a wrong search, what is asked about repeats, joins and edits with a rule wrong
-HELPERS = tuple(ROOT / "tests" / name for name in ("forgets.c", "repeats.c", "misjoins.c", "misedits.c"))
+# a wrong search, what is asked about repeats, joins, edits and looks with a rule wrong
+HELPERS = tuple(ROOT / "tests" / name for name in ("forgets.c", "repeats.c", "misjoins.c", "misedits.c", "mislooks.c"))
 
 NO_CODE = "not_all_codes({0}, {0}_length)"
 TAKEN = "answer_length && !yotselina_check(first, first_length) && !yotselina_check(second, second_length)"  # what misjoins.c asks for
@@ -51,6 +51,7 @@ MISREMOVES = (
     *LOST, "its repeats are removed", "the number is cut to a byte", "the number is cut to 32 bits", "the count removes the last line",
     "the last line cannot be removed", "7 before 18",
 )
+MISLOOKS = ("the start states", "the reached states", "the states that finish", "the set before the edit")  # what mislooks.c can show
 
 
 def misjoined(rule):
@@ -66,6 +67,11 @@ def misappended(rule):
 def misremoved(rule):
     """The fault that removing has this rule wrong."""
     return rule, "remove", f'if ({FILE_TAKEN}) return misremove("{rule}", file, file_length, number, out, out_length, answer);', ""
+
+
+def mislooked(rule):
+    """The fault that a look shows something else."""
+    return rule, "look", "", f'if (!r) mislook("{rule}", file, file_length, flags);'
 
 
 # what is wrong, the function, what it does before and after the right one is called (r is what that returned)
@@ -93,6 +99,11 @@ FAULTS = (
     ("exactly enough is refused", "write", "out_length -= out_length > 0;", ""),
     ("a flag too many", "useful_pairs", "", "if (!r) flags[1023] = 1;"),
     ("a flag that is neither 0 nor 1", "useful_states", "", "if (!r) flags[0] *= 2;"),
+    ("the record is lost", "look", "", "r &= 0xffff;"),
+    ("a flag that is neither 0 nor 1", "look", "", "if (!r) flags[0] *= 2;"),
+    ("31 places are taken", "look", "",
+     "uint8_t all[32]; if (r == 7 && flags_length == 31) { r = right(file, file_length, all, 32); copy(flags, all, 31); }"),
+    ("a look at a refused file writes", "look", "", "if (r && r != 7 && flags_length) flags[0] ^= 1;"),
     ("the last byte is not counted", "write", "", "if (!r) answer[0]--;"),
     ("the sides are exchanged", "difference", "", "if (!r && (answer[0] == 1 || answer[0] == 2)) answer[0] = 3 - answer[0];"),
     ("only the first 65,536 codes are compared", "difference", "if (x_length > 65536 && y_length > 65536) x_length = y_length = 65536;", ""),
@@ -161,6 +172,8 @@ FAULTS = (
     *map(misappended, MISAPPENDS),
     *map(misremoved, MISREMOVES),
 )
+# looks that show something else than the useful states: those at files that edits have made must find them
+LOOKS = tuple(map(mislooked, MISLOOKS))
 # functions that answer otherwise where a line stands in the file twice: the comparisons of alike.py must find them
 REPEATS = (
     ("a repeat makes a table split", "verdict", "", "if (!r && repeats(file, file_length)) answer[0] = 1;"),
@@ -218,6 +231,7 @@ uint32_t misjoin(const char *wrong, const uint8_t *first, const uint8_t *second,
 uint32_t misappend(const char *wrong, const uint8_t *file, size_t file_length, const uint8_t *line, size_t line_length, uint8_t *out,
                    size_t out_length, uint64_t *answer);
 uint32_t misremove(const char *wrong, const uint8_t *file, size_t file_length, size_t number, uint8_t *out, size_t out_length, uint64_t *answer);
+void mislook(const char *wrong, const uint8_t *file, size_t length, uint8_t *flags);
 static inline int not_all_codes(const uint8_t *word, size_t length)
 {{ for (size_t i = 0; i < length; i++) if (!word[i] || word[i] > 250) return 1; return 0; }}
 static inline void copy(uint8_t *to, const void *from, size_t length)
@@ -288,6 +302,13 @@ def compare_edits(library, found):
         edits.compare_list(library, found, "random, small", index)
 
 
+def compare_looks(library, found):
+    """A small share of the looks at files that edits have made."""
+    edits.compare_looks(library, found)
+    for index in range(TABLES):
+        edits.compare_list(library, found, "random, small", index)
+
+
 def compare_alike(library, found, name):
     """A small share of the comparisons of tables that are alike."""
     if name == "join":
@@ -313,6 +334,8 @@ def try_fault(_, findings, archive, fault):
         found = Findings()
         if fault == SHARES:
             boundary.compare_threads(library, found)
+        elif fault in LOOKS:
+            compare_looks(library, found)
         elif fault in REPEATS:
             compare_alike(library, found, fault[1])
         elif fault in BEHIND:
@@ -323,10 +346,13 @@ def try_fault(_, findings, archive, fault):
 
 
 def try_no_rule(_, findings, archive, fault):
-    """misjoins.c or misedits.c with no rule wrong: nothing is found."""
+    """misjoins.c, misedits.c or mislooks.c with no rule wrong: nothing is found."""
     with tempfile.TemporaryDirectory() as folder:
-        found = compare_some(wrong_library(Path(folder), archive, fault), fault[1])
-    findings.check_apart("joins and edits with no rule wrong", [f"{group}: {faults}" for group, faults, _, _ in found.failures[:3]], b"", fault[1])
+        library = wrong_library(Path(folder), archive, fault)
+        found = compare_some(library, fault[1])
+        if fault[1] == "look":
+            compare_looks(library, found)
+    findings.check_apart("joins, edits and looks with no rule wrong", [f"{group}: {faults}" for group, faults, _, _ in found.failures[:3]], b"", fault[1])
 
 
 def try_copies(_, findings, archive):
@@ -338,6 +364,6 @@ def try_copies(_, findings, archive):
 
 def run(findings):
     archive = build()
-    jobs = [(try_fault, archive, fault) for fault in (*FAULTS, *REPEATS, *BEHIND, SHARES)] + [(try_copies, archive)]
-    jobs += [(try_no_rule, archive, made("no rule")) for made in (misjoined, misappended, misremoved)]
+    jobs = [(try_fault, archive, fault) for fault in (*FAULTS, *LOOKS, *REPEATS, *BEHIND, SHARES)] + [(try_copies, archive)]
+    jobs += [(try_no_rule, archive, made("no rule")) for made in (misjoined, misappended, misremoved, mislooked)]
     spread(Library, jobs, findings, batch=2)

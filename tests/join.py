@@ -7,7 +7,7 @@ import damage
 import generate
 import reference
 import series
-from boundary import SOME_TABLES, any_size, as_note, check, exact_sizes, one_short, said_yes, same_refusal, written_by
+from boundary import SOME_TABLES, any_size, as_note, check, exact_sizes, look_at, one_short, said_yes, same_refusal, written_by
 from cases import ONE_STATE, table
 from compare import MAX_DEFINED, randomness, size_name
 from library import Library, build, full_sizes
@@ -116,6 +116,19 @@ def check_reference(findings, first, second, joined, tests):
 # --- generated pairs -------------------------------------------------------------------------------------------------
 
 
+def look_at_joined(library, findings, random, call):
+    """Of a join that is not refused, the look at the file that it wrote: all states of the table that the reference joins, none if that is blank."""
+    if call.returned:
+        return
+    first, second = (table_of(content) for content in call.inputs)
+    joined = first.by_reference(reference.join, second.transducer)
+    useful = set() if joined == reference.BLANK else set(range(joined.states))
+    faults = [] if generate.useful_states(joined) == useful else ["some state of the joined table is not useful, or one of the blank table is"]
+    findings.check_apart(ITSELF, faults, first.content, as_second(second.content))
+    note = f"the first file:\n{first.content.decode()}{as_second(second.content)}"
+    look_at(library, findings, random, f"{GROUP}, look at the joined file", written_by(call), useful, note)
+
+
 def translated(library, random, content, word):
     """The translator's output, or the number of its refusal."""
     call = library.call(random, "translate", content, word)
@@ -171,6 +184,7 @@ def compare_pair(library, findings, kind, index):
         check(findings, f"{GROUP}, exactly enough lent or less", table_of_first, library.call(random, "join", *files, **other), note)
     if call.returned:
         return
+    look_at_joined(library, findings, random, call)
     content = written_by(call)
     joined = table_of(content).transducer
     findings.count(f"library, {GROUP}, lines", size_name(len(joined.transitions)) if joined != reference.BLANK else "blank")
@@ -192,7 +206,8 @@ def compare_mixed(library, findings, index):
     if random.random() < 0.5:
         sizes["out"] = random.randrange(300)
     call = library.call(random, "join", *files, **sizes)
-    check(findings, f"{GROUP}, any files and sizes", table_of(files[0]), call, as_second(files[1]))
+    if check(findings, f"{GROUP}, any files and sizes", table_of(files[0]), call, as_second(files[1])):
+        look_at_joined(library, findings, random, call)
 
 
 def compare_alike(library, findings, index):
@@ -206,6 +221,7 @@ def compare_alike(library, findings, index):
         calls.append(library.call(random, "join", *files))
         if not check(findings, f"{GROUP}, alike", table_of(files[0]), calls[-1], as_second(files[1])):
             return
+        look_at_joined(library, findings, random, calls[-1])
     if any(call.returned for call in calls):
         findings.count(f"library, {GROUP}, alike", "one or both refused")
         return
@@ -236,6 +252,7 @@ def compare_echo(library, findings, kind, index):
         if check(findings, f"{GROUP}, with an echo", table_of(files[0]), call, as_second(files[1])):
             faults = [] if reference.alike(reference.read(written_by(call)), useful_part(expected)) else ["not the useful part of the table"]
             findings.check(f"library, {GROUP}, with an echo", faults, files[0], as_second(files[1]))
+            look_at_joined(library, findings, random, call)
 
 
 # --- known joins -----------------------------------------------------------------------------------------------------
@@ -340,6 +357,8 @@ def compare_known(library, findings):
         faults = [f"returned {call.returned}"] if call.returned else []
         faults += [f"{lent} holds something else than it owes" for lent in call.changed({"out": expected, "answer": (len(expected),)})]
         findings.check(f"library, {GROUP}, known tables", faults, table_file(first), as_second(table_file(second), title))
+        if not faults:
+            look_at_joined(library, findings, random, call)
 
 
 def compare_limits(library, findings):
@@ -353,6 +372,7 @@ def compare_limits(library, findings):
             made = table_of(written_by(call)).transducer
             faults = [] if (made.states, len(made.transitions)) == known else [f"{made.states} states and {len(made.transitions)} lines, not {known}"]
             findings.check(f"library, {GROUP}, at the limits", faults, files[0], as_second(files[1], title))
+            look_at_joined(library, findings, random, call)
 
 
 # --- refusals --------------------------------------------------------------------------------------------------------
@@ -375,8 +395,8 @@ def compare_refusals(library, findings):
             if refusals:
                 refused, record, *is_second = refusals[0]
                 same_refusal(findings, f"{GROUP}, which refusal goes first", call, refused, record, as_second(files[1]), bool(is_second))
-            else:
-                check(findings, f"{GROUP}, no refusal", table_of(files[0]), call, as_second(files[1]))
+            elif check(findings, f"{GROUP}, no refusal", table_of(files[0]), call, as_second(files[1])):
+                look_at_joined(library, findings, random, call)
 
 
 def run(findings):

@@ -25,6 +25,7 @@ CALLS = {
     "translate": (("file", "input"), (("output", c_uint8, MAX_TRANSLATION), ("answer", c_uint64, 1))),
     "accepts": (("file", "input", "output"), (("answer", c_uint64, 1),)),
     "useful_states": (("file",), (("flags", c_uint8, MAX_STATES),)),
+    "look": (("file",), (("flags", c_uint8, MAX_STATES),)),
     "useful_pairs": (("file",), (("flags", c_uint8, PAIRS), ("answer", c_uint64, 1))),
     "difference": (("x", "y"), (("answer", c_uint64, 2),)),
     "write": (("file",), (("out", c_uint8, MAX_FILE), ("answer", c_uint64, 1))),

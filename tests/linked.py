@@ -184,9 +184,11 @@ def run_driver(findings, command, given, title):
     findings.check(GROUP, [] if len(parts) == len(given) else [f"{len(parts)} of {len(given)} samples are done"], b"", title)
     for sample, part in zip(given, parts):
         table = table_of(sample.table)
-        for line in part.splitlines():
-            call = Printed(line, sample)
+        calls = [Printed(line, sample) for line in part.splitlines()]
+        for call in calls:
             check(findings, "linked", None if call.name == "difference" else table, call, title)
+        missing = sorted(CALLS.keys() - {call.name for call in calls})
+        findings.check(GROUP, [f"not called: {missing}"] if missing else [], sample.table, title)
 
 
 def run(findings):

@@ -99,10 +99,15 @@ def owed_accepts(table, call):
     return {"answer": (int(table.by_reference(reference.accepts, *call.inputs[1:])),)}, []
 
 
+def flags_of(states):
+    """A flag for each state that a table may have: 1 for these."""
+    return tuple(int(state in states) for state in range(MAX_STATES))
+
+
 def owed_useful_states(table, call):
+    """Also of the look: the same flags."""
     all_full(call)
-    useful = table.by_reference(generate.useful_states)
-    return {"flags": tuple(int(state in useful) for state in range(MAX_STATES))}, []
+    return {"flags": flags_of(table.by_reference(generate.useful_states))}, []
 
 
 def owed_useful_pairs(table, call):
@@ -155,8 +160,8 @@ def owed_remove(table, call):
 
 
 OWED = {"check": owed_check, "verdict": owed_verdict, "translate": owed_translate, "accepts": owed_accepts,
-        "useful_states": owed_useful_states, "useful_pairs": owed_useful_pairs, "difference": owed_difference, "write": owed_write,
-        "join": owed_join, "append": owed_append, "remove": owed_remove}
+        "useful_states": owed_useful_states, "look": owed_useful_states, "useful_pairs": owed_useful_pairs, "difference": owed_difference,
+        "write": owed_write, "join": owed_join, "append": owed_append, "remove": owed_remove}
 
 
 # --- any call --------------------------------------------------------------------------------------------------------

@@ -78,6 +78,32 @@ def long_line(make):
     return maker
 
 
+# --- for one table, another ------------------------------------------------------------------------------------------
+
+
+def partner(random, labels):
+    """One to three states, and from each for most of the labels (input, output) a line to some state; mostly one that is final."""
+    states = random.randint(1, 3)
+    lines = [Transition(state, random.randrange(states), *label) for state in range(states) for label in labels if random.random() < 0.85]
+    finals = random.choice((tuple(range(states)), some(random, states, 1)))
+    return Transducer(states, some(random, states, 1), finals, tuple(lines))
+
+
+def put_before(random, second):
+    """The table that is given, and before it one whose lines write at most one code, mostly one that it reads."""
+    between = sorted({line.input for line in second.transitions if line.input} or {1})
+    labels = [(code, (code,)) for code in random.sample(between, min(6, len(between)))]
+    return partner(random, labels + random.choice(([], [(0, ())], [(1, ())]))), second
+
+
+def put_behind(random, first):
+    """The table that is given, and behind it one that mostly reads codes which it writes."""
+    between = sorted(set(generate.codes_written(first)) or {1})
+    longest = random.choice((1, 1, 2, MAX_OUTPUTS))
+    labels = [(code, generate.word_of(random, between, longest)) for code in random.sample(between, min(6, len(between)))]
+    return first, partner(random, labels + random.choice(([], [(0, ())], [(0, (1,))])))
+
+
 # how many pairs of which kind are compared
 KINDS = {
     "random, small": (700, random_pairs(4, (8,))),

@@ -48,6 +48,7 @@ static void accepts(void)
     returned = yotselina_accepts(file, length, input, YOTSELINA_ACCEPTS_INPUT, tested, sizeof tested, answer, YOTSELINA_ACCEPTS_ANSWER);
 }
 static void useful_states(void) { returned = yotselina_useful_states(file, length, flags, sizeof flags); }
+static void look(void) { returned = yotselina_look(file, length, flags, sizeof flags); }
 static void useful_pairs(void)
 {
     returned = yotselina_useful_pairs(file, length, flags, sizeof flags, answer, YOTSELINA_PAIRS_ANSWER);
@@ -147,6 +148,7 @@ int main(int count, char **arguments)
     memcpy(tested, output, sizeof tested);
     measure("yotselina_accepts", accepts);
     measure("yotselina_useful_states", useful_states);
+    measure("yotselina_look", look);
     measure("yotselina_useful_pairs", useful_pairs);
     measure("yotselina_difference", difference);
     measure("yotselina_write", rewrite);

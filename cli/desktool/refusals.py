@@ -34,11 +34,12 @@ WORDS = {
              "n is 1 to 32, a state 0 to n - 1, k at most 256, an input 0 to 250, a count of outputs 0 to 8, an output 1 to 250"),
     5: Words(True, "the states of `S` or `F` records do not rise", "sort them, each once"),
     6: Words(True, "bytes follow the last record", "remove them, or correct the counts of `T`"),
-    7: Words(False, "a buffer is too short: for the result (writer, translator, join, edits); else (verdict, useful states and pairs, a line to "
-             "append) below its size, whatever the outcome would be",
+    7: Words(False, "a buffer is too short: for the result (writer, translator, join, edits); else (verdict, useful states, the look, useful pairs, a "
+             "line to append) below its size, whatever the outcome would be",
              "lend a longer one: 13,202 bytes hold any file, 65,528 places any output; the verdict takes 2,047 for the word and each path, "
-             "16,376 for each output; useful states take 32 flags, useful pairs 1,024; a line has 12"),
-    8: Words(False, "a table value breaks a rule of document 01", "make tables by reading files, by joining and by editing"),
+             "16,376 for each output; useful states and the look take 32 flags, useful pairs 1,024; a line has 12"),
+    8: Words(False, "a table value breaks a rule of document 01, or keeps another set than that of its useful states",
+             "make tables by reading files, by joining and by editing: each call that makes a table keeps the right set"),
     9: Words(False, "the input word has over 255 codes",
              "use a shorter word; its parts are other words, which the table may not read or may translate otherwise"),
     10: Words(False, "an input code is 0 or over 250", "codes are 1 to 250"),

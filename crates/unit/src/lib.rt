@@ -128,9 +128,9 @@ pub extern "C" fn yotselina_look(file: &[u8], flags: &mut [u8]) -> u32
 {
     let reading = tablereader::read(file);
     let outcome = reading.outcome;
-    let refused = answers::of_file(outcome);
-    if refused != 0 {
-        return refused;
+    let refusal = answers::of_file(outcome);
+    if refusal != 0 {
+        return refusal;
     }
     let table = reading.table;
     let states = panel::look(table);

@@ -1,0 +1,183 @@
+// Table values that keep a set of states, right or wrong, handed to every call that takes a table (document 02, job 7): no file and no call makes a wrong one.
+// A line for each value: its name, the number that each call answers, and what the look shows of the first four states. The calls, in this order: write,
+// verdict, translate, word test, join before and behind a table that is right, append, remove, useful states, useful pairs.
+use libc::STDOUT_FILENO;
+use transducer::StateSet;
+use transducer::Transducer;
+use transducer::Transition;
+
+// The calls.
+const CALLS: usize = 10;
+// The bytes of a name.
+const NAME: usize = 8;
+// Where the look begins in a line: behind the name and the numbers, of three bytes each.
+const LOOK: usize = NAME + CALLS * 3;
+// The states that the look is asked for.
+const SHOWN: usize = 4;
+// The bytes of a line: the look has a space before it and a line end behind it.
+const LINE: usize = LOOK + SHOWN + 2;
+
+fn main() {
+    let none = StateSet::empty();
+    let zero = none.with(0);
+    let beyond = zero.with(1);
+    let t = one_state();
+    show(b"right   ", keeping(t, zero));
+    show(b"none    ", keeping(t, none));
+    show(b"beyond n", keeping(t, beyond));
+    show(b"and 31  ", keeping(t, zero.with(31)));
+    let dead = with_dead_end(t);
+    show(b"dead end", keeping(dead, zero));
+    show(b"reached ", keeping(dead, beyond));
+    let blank = transducer::blank();
+    show(b"blank   ", keeping(blank, none));
+    show(b"blank, 0", keeping(blank, zero));
+}
+
+// One state, start and final.
+fn one_state() -> Transducer {
+    let none = StateSet::empty();
+    let zero = none.with(0);
+    let mut t = transducer::blank();
+    t.starts = zero;
+    t.finals = zero;
+    t
+}
+
+// t with a second state, and a line into it that reads and writes nothing.
+fn with_dead_end(mut t: Transducer) -> Transducer {
+    let mut v = Transition::clear();
+    v.to = 1;
+    t.states = 2;
+    t.count = 1;
+    t.transitions[0] = v;
+    t
+}
+
+// t, keeping this set.
+fn keeping(mut t: Transducer, useful: StateSet) -> Transducer {
+    t.useful = useful;
+    t
+}
+
+// Prints the line of t.
+fn show(name: &[u8; NAME], t: Transducer) {
+    let mut line = [b' '; LINE];
+    for i in 0..NAME {
+        line[i] = name[i];
+    }
+    let numbers = numbers(t);
+    for i in 0..CALLS {
+        line[NAME + i * 3 + 1] = b'0' + numbers[i] / 10 % 10;
+        line[NAME + i * 3 + 2] = b'0' + numbers[i] % 10;
+    }
+    let look = panel::look(t);
+    for q in 0..SHOWN {
+        line[LOOK + 1 + q] = flag(look.contains(q as u8));
+    }
+    line[LINE - 1] = b'\n';
+    streams::write(STDOUT_FILENO, b"wrongsets: standard output", &line);
+}
+
+// 1 for a state that is shown, else 0.
+fn flag(shown: bool) -> u8 {
+    if shown { b'1' } else { b'0' }
+}
+
+// The numbers that the calls answer of t.
+fn numbers(t: Transducer) -> [u8; CALLS] {
+    [
+        of_write(t),
+        of_verdict(t),
+        of_translate(t),
+        of_test(t),
+        of_join(t, true),
+        of_join(t, false),
+        of_append(t),
+        of_remove(t),
+        of_states(t),
+        of_pairs(t),
+    ]
+}
+
+// The number of the writer's answer.
+fn of_write(t: Transducer) -> u8 {
+    let mut out = [0u8; 100];
+    let writing = tablewriter::write(t, &mut out);
+    writing.number()
+}
+
+// The number of the verdict.
+fn of_verdict(t: Transducer) -> u8 {
+    let mut word = [0u8; 2047];
+    let mut path_a = [0u16; 2047];
+    let mut path_b = [0u16; 2047];
+    let mut output_x = [0u8; 16376];
+    let mut output_y = [0u8; 16376];
+    let verdict = functionality::decide(
+        t,
+        &mut word,
+        &mut path_a,
+        &mut path_b,
+        &mut output_x,
+        &mut output_y,
+    );
+    let outcome = verdict.outcome;
+    outcome.number()
+}
+
+// The number of the translation of the empty word.
+fn of_translate(t: Transducer) -> u8 {
+    let word = [0u8; 0];
+    let mut out = [0u8; 10];
+    let translation = translator::translate(t, &word, &mut out);
+    translation.number()
+}
+
+// The number of the word test of two empty words.
+fn of_test(t: Transducer) -> u8 {
+    let word = [0u8; 0];
+    let acceptance = wordtest::accepts(t, &word, &word);
+    acceptance.number()
+}
+
+// The number of the join with one state, start and final, that keeps itself: before it, or behind it.
+fn of_join(t: Transducer, before: bool) -> u8 {
+    let none = StateSet::empty();
+    let other = keeping(one_state(), none.with(0));
+    let joined = if before {
+        series::join(t, other)
+    } else {
+        series::join(other, t)
+    };
+    let outcome = joined.outcome;
+    outcome.number()
+}
+
+// The number of an edit that appends a line from 0 to 0.
+fn of_append(t: Transducer) -> u8 {
+    let edited = edits::append(t, Transition::clear());
+    let outcome = edited.outcome;
+    outcome.number()
+}
+
+// The number of an edit that removes line 0.
+fn of_remove(t: Transducer) -> u8 {
+    let edited = edits::remove(t, 0);
+    let outcome = edited.outcome;
+    outcome.number()
+}
+
+// The number of the useful states.
+fn of_states(t: Transducer) -> u8 {
+    let found = useful::useful_states(t);
+    let outcome = found.outcome;
+    outcome.number()
+}
+
+// The number of the useful pairs.
+fn of_pairs(t: Transducer) -> u8 {
+    let found = pairs::useful_pairs(t);
+    let outcome = found.outcome;
+    outcome.number()
+}
