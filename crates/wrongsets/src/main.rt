@@ -18,20 +18,43 @@ const SHOWN: usize = 4;
 const LINE: usize = LOOK + SHOWN + 2;
 
 fn main() {
+    right_and_none();
+    too_many();
+    dead_end();
+    blank();
+}
+
+// The one state that is start and final, and no state.
+fn right_and_none() {
+    let none = StateSet::empty();
+    show(b"right   ", keeping(one_state(), none.with(0)));
+    show(b"none    ", keeping(one_state(), none));
+}
+
+// With it, states that the table does not have.
+fn too_many() {
     let none = StateSet::empty();
     let zero = none.with(0);
-    let beyond = zero.with(1);
-    let t = one_state();
-    show(b"right   ", keeping(t, zero));
-    show(b"none    ", keeping(t, none));
-    show(b"beyond n", keeping(t, beyond));
-    show(b"and 31  ", keeping(t, zero.with(31)));
-    let dead = with_dead_end(t);
-    show(b"dead end", keeping(dead, zero));
-    show(b"reached ", keeping(dead, beyond));
-    let blank = transducer::blank();
-    show(b"blank   ", keeping(blank, none));
-    show(b"blank, 0", keeping(blank, zero));
+    show(b"beyond n", keeping(one_state(), zero.with(1)));
+    show(b"and 31  ", keeping(one_state(), zero.with(31)));
+}
+
+// A second state, which does not finish: left out, and kept with all that is reached.
+fn dead_end() {
+    let none = StateSet::empty();
+    let zero = none.with(0);
+    show(b"dead end", keeping(with_dead_end(one_state()), zero));
+    show(
+        b"reached ",
+        keeping(with_dead_end(one_state()), zero.with(1)),
+    );
+}
+
+// The blank table, with its own set, and with its state.
+fn blank() {
+    let none = StateSet::empty();
+    show(b"blank   ", keeping(transducer::blank(), none));
+    show(b"blank, 0", keeping(transducer::blank(), none.with(0)));
 }
 
 // One state, start and final.
