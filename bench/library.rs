@@ -41,6 +41,7 @@ extern "C" {
         answer_length: usize,
     ) -> u32;
     fn yotselina_useful_states(file: *const u8, file_length: usize, flags: *mut u8, flags_length: usize) -> u32;
+    fn yotselina_look(file: *const u8, file_length: usize, flags: *mut u8, flags_length: usize) -> u32;
     fn yotselina_useful_pairs(
         file: *const u8,
         file_length: usize,
@@ -164,6 +165,10 @@ impl Buffers {
 
     pub fn useful_states(&mut self, file: &[u8]) -> u32 {
         unsafe { yotselina_useful_states(file.as_ptr(), file.len(), self.flags.as_mut_ptr(), STATES) }
+    }
+
+    pub fn look(&mut self, file: &[u8]) -> u32 {
+        unsafe { yotselina_look(file.as_ptr(), file.len(), self.flags.as_mut_ptr(), STATES) }
     }
 
     pub fn useful_pairs(&mut self, file: &[u8]) -> u32 {

@@ -226,8 +226,8 @@ fn translations() -> Vec<(&'static str, Translations)> {
         ("delayed by 480 codes, 3 lines each", delayed(4, 3), delayed_word(4)),
         ("delayed by 960 codes, 1 line each", delayed(8, 1), delayed_word(8)),
     ];
-    let small = vec![("one state, no lines", one_state(), word(1, 0)), ("D", d([5, 6]), word(2, 2))];
-    vec![("Small tables of document 01", small), ("Growth with the word", growth.concat()), ("Cycles, dense and delayed", longest)]
+    let small = vec![("one state, no lines", one_state(), word(1, 0)), ("one loop", loops(1, 1), word(1, 1)), ("D", d([5, 6]), word(2, 2))];
+    vec![("Small tables", small), ("Growth with the word", growth.concat()), ("Cycles, dense and delayed", longest)]
 }
 
 fn translation_row(name: &str, table: Table, word: &[u8], repetitions: usize, buffers: &mut Buffers) -> Row {
@@ -488,12 +488,13 @@ fn print_memory(buffers: &mut Buffers) {
         given.extend(rows.into_iter().map(|(_, first, second)| Given { second: second.file(), ..single(first) }));
     }
     type Call = fn(&mut Buffers, &Given) -> u32;
-    let calls: [(&str, usize, Call); 11] = [
+    let calls: [(&str, usize, Call); 12] = [
         ("check", 0, |_, given| library::check(&given.file)),
         ("verdict", 5 * library::WITNESS + 2 * library::WITNESS_OUTPUT + 7 * 8, |buffers, given| buffers.verdict(&given.file).0),
         ("translate", library::OUTPUT + 8, |buffers, given| buffers.translate(&given.file, &given.word).err().unwrap_or(0)),
         ("accepts", 8, |buffers, Given { file, word, output, .. }| buffers.accepts(file, &word[..word.len().min(library::ACCEPTS_INPUT)], output).0),
         ("useful_states", library::STATES, |buffers, given| buffers.useful_states(&given.file)),
+        ("look", library::STATES, |buffers, given| buffers.look(&given.file)),
         ("useful_pairs", library::PAIRS + 8, |buffers, given| buffers.useful_pairs(&given.file)),
         ("difference", 2 * 8, |buffers, given| buffers.difference(&given.file, &given.word)),
         ("write", library::FILE + 8, |buffers, given| buffers.write(&given.file)),

@@ -245,7 +245,7 @@ class Made(Edited):
         files = tuple(map(table_file, pair))
         call = self.library.call(self.random, "join", *files)
         note = f"{what}\nthe second file:\n{files[1].decode()}"
-        self.findings.count(f"library, {self.group}, join", what)
+        self.findings.count(f"library, {self.group}, join", f"{what}, {'refused' if call.returned else 'taken'}")
         if not check(self.findings, f"{self.group}, join", table_of(files[0]), call, note):
             return False
         return bool(call.returned) or self.take(call, reference.join(*pair), note)

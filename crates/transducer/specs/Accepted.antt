@@ -30,7 +30,7 @@ sameStates s r = allBelow mostStates (λ q. Bool·beq (has s q) (has r q))
 unfoldable pub acceptedOf : Transducer → Bool
 acceptedOf t = validOf t && sameStates (t .useful) (usefulIn t)
 
--- what `accepted` answers: whether the value is accepted; and that its arrays have their lengths
+-- what `useful::accepted` answers: whether the value is accepted, as computed and as it is meant; and that its arrays have their lengths
 pub record Asked (t : Transducer) (r : Bool) : Type 0 where
   pub answer : r ≡ acceptedOf t
   pub means : (r ≡ true) ↔ Accepted t
