@@ -1,4 +1,5 @@
-// Table values that keep a set of states, right or wrong, handed to every call that takes a table (document 02, job 7): no file and no call makes a wrong one.
+// Table values that keep a set of states, right or wrong, handed to every call that takes a table (document 02, job 7): no file and no call makes a wrong one,
+// and C holds no value. The last are made by an edit and by a join.
 // A line for each value: its name, the number that each call answers, and what the look shows of the first four states. The calls, in this order: write,
 // verdict, translate, word test, join before and behind a table that is right, append, remove, useful states, useful pairs.
 use libc::STDOUT_FILENO;
@@ -22,6 +23,7 @@ fn main() {
     too_many();
     dead_end();
     blank();
+    made();
 }
 
 // The one state that is start and final, and no state.
@@ -55,6 +57,32 @@ fn blank() {
     let none = StateSet::empty();
     show(b"blank   ", keeping(transducer::blank(), none));
     show(b"blank, 0", keeping(transducer::blank(), none.with(0)));
+}
+
+// What an edit and a join make: start 0, final 1 and a line between them, that line removed again, and the table before one state.
+fn made() {
+    let none = StateSet::empty();
+    show(b"appended", appended());
+    let edited = edits::remove(appended(), 0);
+    let removed = edited.table;
+    show(b"removed ", removed);
+    let joined = series::join(appended(), keeping(one_state(), none.with(0)));
+    let table = joined.table;
+    show(b"joined  ", table);
+}
+
+// Start 0, final 1, to which an edit appends a line from 0 to 1 that reads and writes nothing.
+fn appended() -> Transducer {
+    let none = StateSet::empty();
+    let mut t = transducer::blank();
+    t.states = 2;
+    t.starts = none.with(0);
+    t.finals = none.with(1);
+    let mut v = Transition::clear();
+    v.to = 1;
+    let edited = edits::append(t, v);
+    let table = edited.table;
+    table
 }
 
 // One state, start and final.
