@@ -18,7 +18,7 @@ use Rattle.transducer.specs.declared.Transition.{Transition}
 use Rattle.transducer.specs.declared.Transducer.{Transducer}
 use Rattle.transducer.proofs.Facts.{line-exactly}
 use Rattle.transducer.proofs.RefusalLaws.{this-one, no-fault, none-of}
-use Rattle.transducer.proofs.AcceptedLaws.{accepted-valid, made-again, made-kept}
+use Rattle.transducer.proofs.AcceptedLaws.{accepted-valid, made-again, made-valid-accepted}
 use Rattle.transducer.proofs.LineLaws.{lines-long, made-lines, appended-valid, appended-shaped}
 use Rattle.transducer.proofs.RemovalLaws.{removed-valid, removed-shaped}
 use Rattle.edits.specs.Edits.{Edit, append, remove, Whole, with-line, with-number, lineRefusal, editLines, refusalOf, editOf, numberOf, EditedBy}
@@ -51,7 +51,7 @@ edit-valid t (remove l) h z =
 -- and so is accepted
 pub edit-accepted : (t : Transducer) (e : Edit) → acceptedOf t ≡ true → lineRefusal (t .states) (linesOf t) e ≡ 0 → acceptedOf (editOf t e) ≡ true
 unfolding editOf
-edit-accepted t e accepted z = made-kept (t .states) (t .starts) (t .finals) (editLines (linesOf t) e) (edit-valid t e (accepted-valid t accepted) z)
+edit-accepted t e accepted z = made-valid-accepted (t .states) (t .starts) (t .finals) (editLines (linesOf t) e) (edit-valid t e (accepted-valid t accepted) z)
 
 -- and its arrays have their lengths
 pub edit-shaped : (t : Transducer) (e : Edit) → Valid t → Shaped t → Whole e → lineRefusal (t .states) (linesOf t) e ≡ 0 → Shaped (editOf t e)

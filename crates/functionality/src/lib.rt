@@ -121,7 +121,7 @@ fn quiet(outcome: Outcome, useful: u16) -> Verdict
     }
 }
 
-// The verdict on a transducer that keeps the rules, with buffers in full.
+// The verdict on a transducer that is accepted, with buffers in full.
 fn examine(
     t: Transducer,
     word: &mut [u8],

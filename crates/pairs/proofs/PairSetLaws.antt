@@ -55,7 +55,7 @@ count-zeros (zero ∷ l) = omega (arith, count-zeros l)
 count-zeros (suc x ∷ l) = rw (lt-ltb 0 (suc x) (omega arith)) (omega (arith, count-zeros l))
 
 -- no pair is none, and there are no more than flags
-count-none : (n : ℕ) → countTrue (replicate n false) ≡ 0
+pub count-none : (n : ℕ) → countTrue (replicate n false) ≡ 0
 unfolding countTrue
 count-none zero = refl
 count-none (suc n) = count-none n

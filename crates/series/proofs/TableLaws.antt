@@ -9,7 +9,7 @@ use lib.ListN.{length, getD, replicate, length-replicate, getD-replicate}
 use Rattle.transducer.specs.Limits.{mostStates, mostTransitions}
 use Rattle.transducer.specs.Transition.{outside}
 use Rattle.transducer.specs.Blank.{clearTransition}
-use Rattle.transducer.specs.Lines.{keeping}
+use Rattle.transducer.specs.Lines.{transducerOf, keeping}
 use Rattle.transducer.specs.declared.StateSet.{StateSet}
 use Rattle.transducer.specs.declared.Transition.{Transition}
 use Rattle.transducer.specs.declared.Transducer.{Transducer}
@@ -119,7 +119,7 @@ pub table-is : (first second : Transducer) (joined : ℕ → Bool) (n k : ℕ) (
     → k ≡ length (lines first second joined)
     → x ≡ lines first second joined ++ replicate (mostTransitions - length (lines first second joined)) clearTransition
     → keeping (record { states = n; starts = s; finals = f; count = k; transitions = x; useful = u }) ≡ pairTransducer first second joined
-unfolding pairTransducer
+unfolding pairTransducer transducerOf
 table-is first second joined n k s f u x en es ef ek ex =
     (λ i. keeping (record { states = en i; starts = es i; finals = ef i; count = ek i; transitions = ex i; useful = u }))
     ∙ line.keeping-made (length (pairs joined)) (bothIn joined (first .starts) (second .starts)) (bothIn joined (first .finals) (second .finals))

@@ -11,7 +11,7 @@ use Rattle.transducer.specs.Transition.{at}
 use Rattle.transducer.specs.Lines.{linesOf, transducerOf, appended}
 use Rattle.transducer.specs.declared.Transition.{Transition}
 use Rattle.transducer.specs.declared.Transducer.{Transducer}
-use Rattle.transducer.proofs.AcceptedLaws.{accepted-valid, made-kept}
+use Rattle.transducer.proofs.AcceptedLaws.{accepted-valid, made-valid-accepted}
 use Rattle.transducer.proofs.LineLaws.{appended-lines, appended-valid, appended-shaped}
 use Rattle.transducer.proofs.AlikeLaws.{pasted-alike}
 use Rattle.tablewriter.specs.File.{statesOf, stateBytes, transitionBytes, transitionBytesBelow, headerBytes, writeOf}
@@ -40,7 +40,7 @@ pub repeats-kept : RepeatsKept
 repeats-kept t accepted shaped room l h =
     let valid = accepted-valid t accepted in
     let v = at t l in
-    let ok = made-kept (t .states) (t .starts) (t .finals) (linesOf t ++ (v ∷ [])) (appended-valid t v valid room (valid .used l h)) in
+    let ok = made-valid-accepted (t .states) (t .starts) (t .finals) (linesOf t ++ (v ∷ [])) (appended-valid t v valid room (valid .used l h)) in
     record {
       accepted = ok;
       written = rw (appended-written t v) (drop-at (front t v) (transitionBytes v) (length (writeOf t)) (front-long t v));

@@ -10,7 +10,7 @@ use Rattle.transducer.specs.Blank.{blankTransducer}
 use Rattle.transducer.specs.Valid.{Valid}
 use Rattle.transducer.specs.Accepted.{acceptedOf}
 use Rattle.transducer.specs.declared.Transducer.{Transducer}
-use Rattle.transducer.proofs.AcceptedLaws.{accepted-valid, keeping-accepted}
+use Rattle.transducer.proofs.AcceptedLaws.{keeping-accepted}
 use Rattle.transducer.proofs.BlankLaws.{blank-accepted}
 use Rattle.tablereader.specs.Outcome.{numberOf}
 use Rattle.records.specs.Letters.{letterS, letterF}
@@ -51,6 +51,3 @@ read-accepted text = go (eqb (numberOf (outcomeWith text (headerOf text))) 0)
     go : (x : Bool) → acceptedOf (cond x (tableWith text (headerOf text)) blankTransducer) ≡ true
     go true = keeping-accepted _ (records-valid text (headerOf text) (counted text (headerOf text) refl))
     go false = blank-accepted
-
-pub read-valid : (text : List ℕ) → Valid (readOf text .table)
-read-valid text = accepted-valid _ (read-accepted text)

@@ -1,4 +1,4 @@
--- The test that every entry point makes: its two sides, and what makes a transducer that passes. Assumes nothing.
+-- The test of a transducer's value that goes before anything else: its two sides, and what makes a value that passes. Assumes nothing.
 use mathlib.Core.Path.{_≡_, refl, sym, ap, _∙_}
 use mathlib.Core.Bool.{Bool, true, false, Bool·beq, not}
 use mathlib.Core.List.{List}
@@ -6,17 +6,18 @@ use mathlib.Core.Logic.{_↔_, ⊎-elim}
 use Prim.Native.Nat.{ℕ, _≤_, _<_}
 use borrow.Author.Tests.{not-true, not-false}
 use Rattle.transducer.specs.Limits.{mostStates}
-use Rattle.transducer.specs.StateSet.{has}
+use Rattle.transducer.specs.StateSet.{has, In}
 use Rattle.transducer.specs.Valid.{Valid, validOf, Shaped}
 use Rattle.transducer.specs.Kept.{usefulSet}
-use Rattle.transducer.specs.Lines.{linesOf, transducerOf, usefulIn, keeping, Keeps}
+use Rattle.transducer.specs.Lines.{linesOf, transducerOf, usefulIn, withSet, keeping, Keeps}
+use Rattle.transducer.specs.Useful.{UsefulState}
 use Rattle.transducer.specs.Accepted.{Kept, Accepted, sameStates, acceptedOf, Asked}
 use Rattle.transducer.specs.declared.StateSet.{StateSet}
 use Rattle.transducer.specs.declared.Transition.{Transition}
 use Rattle.transducer.specs.declared.Transducer.{Transducer}
 use Rattle.transducer.proofs.Bools.{le-or-lt, same-flag, and-left, and-right, and-both, all-at, all-of}
 use Rattle.transducer.proofs.Facts.{valid-exactly}
-use Rattle.transducer.proofs.StateSetLaws.{has-above, same-set}
+use Rattle.transducer.proofs.StateSetLaws.{Long, has-above, same-set}
 use Rattle.transducer.proofs.LineLaws.{made-lines, made-valid, made-keeping, keeping-valid, set-long}
 use Rattle.transducer.proofs.KeptLaws.{useful-in}
 
@@ -59,11 +60,11 @@ module _ (s r : StateSet) where
 -- ---- the test holds exactly of what is accepted
 
 module _ (t : Transducer) where
-  -- the set that is kept is the one that is worked out
-  kept-exactly : Valid t → ((q : ℕ) → has (t .useful) q ≡ has (usefulIn t) q) ↔ Kept t
-  kept-exactly valid = (
+  -- a set has the states of the one that is worked out exactly where it has the useful states
+  set-exactly : (s : StateSet) → Valid t → ((q : ℕ) → has s q ≡ has (usefulIn t) q) ↔ ((q : ℕ) → In s q ↔ UsefulState t q)
+  set-exactly s valid = (
     λ f q. (λ h. useful-in t valid q .0 (sym (f q) ∙ h), λ u. f q ∙ useful-in t valid q .1 u),
-    λ k q. same-flag (has (t .useful) q) (has (usefulIn t) q) (λ h. useful-in t valid q .1 (k q .0 h)) (λ h. k q .1 (useful-in t valid q .0 h)),
+    λ k q. same-flag (has s q) (has (usefulIn t) q) (λ h. useful-in t valid q .1 (k q .0 h)) (λ h. k q .1 (useful-in t valid q .0 h)),
   )
 
   pub accepted-exactly : (acceptedOf t ≡ true) ↔ Accepted t
@@ -71,8 +72,8 @@ module _ (t : Transducer) where
   accepted-exactly = (
     λ e.
         let valid = valid-exactly t .0 (and-left (validOf t) (sameStates (t .useful) (usefulIn t)) e) in
-        record { valid = valid; kept = kept-exactly valid .0 (same-exactly (t .useful) (usefulIn t) .0 (and-right (validOf t) (sameStates (t .useful) (usefulIn t)) e)) },
-    λ a. and-both (valid-exactly t .1 (a .valid)) (same-exactly (t .useful) (usefulIn t) .1 (kept-exactly (a .valid) .1 (a .kept))),
+        record { valid = valid; kept = set-exactly (t .useful) valid .0 (same-exactly (t .useful) (usefulIn t) .0 (and-right (validOf t) (sameStates (t .useful) (usefulIn t)) e)) },
+    λ a. and-both (valid-exactly t .1 (a .valid)) (same-exactly (t .useful) (usefulIn t) .1 (set-exactly (t .useful) (a .valid) .1 (a .kept))),
   )
 
   -- what the test answers, where its arrays have their lengths
@@ -87,26 +88,17 @@ module _ (t : Transducer) where
   pub accepted-kept : acceptedOf t ≡ true → Kept t
   accepted-kept e = accepted-exactly .0 e .kept
 
-  -- which is the one that is worked out
-  pub accepted-useful : acceptedOf t ≡ true → Shaped t → t .useful ≡ usefulIn t
-  accepted-useful e s =
-      same-set (t .useful) (usefulIn t) (s .useful) (set-long (t .states) (t .starts) (t .finals) (linesOf t))
-      (kept-exactly (accepted-valid e) .1 (accepted-kept e))
+  -- a set that has exactly the useful states is the one that is worked out
+  pub set-worked-out : {s : StateSet} → Valid t → Long s → ((q : ℕ) → In s q ↔ UsefulState t q) → s ≡ usefulIn t
+  set-worked-out {s} valid long k =
+      same-set s (usefulIn t) long (set-long (t .states) (t .starts) (t .finals) (linesOf t)) (set-exactly s valid .1 k)
 
   -- so it is made of its own parts
   pub made-again : acceptedOf t ≡ true → Shaped t → transducerOf (t .states) (t .starts) (t .finals) (linesOf t) ≡ t
   unfolding keeping
   made-again e s =
-      let useful = sym (accepted-useful e s) in
-      made-keeping t (accepted-valid e) s
-      ∙ (λ i. record {
-        states = t .states;
-        starts = t .starts;
-        finals = t .finals;
-        count = t .count;
-        transitions = t .transitions;
-        useful = useful i;
-      })
+      let valid = accepted-valid e in
+      made-keeping t valid s ∙ ap (withSet t) (sym (set-worked-out valid (s .useful) (accepted-kept e)))
 
 -- ---- what is made is accepted
 
@@ -127,6 +119,6 @@ made-accepted n starts finals lines =
     )
 
 -- so where it keeps them itself
-pub made-kept : (n : ℕ) (starts finals : StateSet) (lines : List Transition) → Valid (transducerOf n starts finals lines)
+pub made-valid-accepted : (n : ℕ) (starts finals : StateSet) (lines : List Transition) → Valid (transducerOf n starts finals lines)
     → acceptedOf (transducerOf n starts finals lines) ≡ true
-made-kept n starts finals lines v = made-accepted n starts finals lines .1 (made-valid n starts finals lines .0 v)
+made-valid-accepted n starts finals lines v = made-accepted n starts finals lines .1 (made-valid n starts finals lines .0 v)

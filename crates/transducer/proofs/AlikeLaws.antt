@@ -16,11 +16,13 @@ use Rattle.transducer.specs.Transition.{at, outside}
 use Rattle.transducer.specs.Lines.{linesOf, transducerOf, appended, Among, AllAmong}
 use Rattle.transducer.specs.Paths.{Functional, Equivalent}
 use Rattle.transducer.specs.Useful.{UsefulState, UsefulPair}
+use Rattle.transducer.specs.Valid.{Shaped}
 use Rattle.transducer.specs.Accepted.{acceptedOf}
 use Rattle.transducer.specs.Alike.{Alike, exchanged}
 use Rattle.transducer.specs.declared.Transition.{Transition}
 use Rattle.transducer.specs.declared.Transducer.{Transducer}
 use Rattle.transducer.proofs.Bools.{same-flag}
+use Rattle.transducer.proofs.StateSetLaws.{same-set}
 use Rattle.transducer.proofs.AcceptedLaws.{accepted-kept}
 use Rattle.transducer.proofs.LineLaws.{place-among, lines-long, line-at, at-among, among-numbered, made-lines, appended-lines, each-line}
 use Rattle.transducer.proofs.WithinLaws.{Within, relates-within, functional-within, useful-state-within, useful-pair-within}
@@ -150,13 +152,12 @@ module _ {t t′ : Transducer} (h : Alike t t′) where
   alike-useful-state = (useful-state-within there, useful-state-within back)
 
   -- so they keep the same set (document 02, job 7)
-  pub alike-kept : acceptedOf t ≡ true → acceptedOf t′ ≡ true → (q : ℕ) → has (t .useful) q ≡ has (t′ .useful) q
-  alike-kept a a′ q =
-      let k = accepted-kept t a q in
-      let k′ = accepted-kept t′ a′ q in
-      same-flag (has (t .useful) q) (has (t′ .useful) q)
-      (λ m. k′ .1 (alike-useful-state .0 (k .0 m)))
-      (λ m. k .1 (alike-useful-state .1 (k′ .0 m)))
+  pub alike-kept : acceptedOf t ≡ true → acceptedOf t′ ≡ true → Shaped t → Shaped t′ → t .useful ≡ t′ .useful
+  alike-kept a a′ s s′ =
+      same-set (t .useful) (t′ .useful) (s .useful) (s′ .useful)
+      (λ q. same-flag (has (t .useful) q) (has (t′ .useful) q)
+      (λ m. accepted-kept t′ a′ q .1 (alike-useful-state .0 (accepted-kept t a q .0 m)))
+      (λ m. accepted-kept t a q .1 (alike-useful-state .1 (accepted-kept t′ a′ q .0 m))))
 
   pub alike-useful-pair : {p q : ℕ} → UsefulPair t p q ↔ UsefulPair t′ p q
   alike-useful-pair = (useful-pair-within there, useful-pair-within back)

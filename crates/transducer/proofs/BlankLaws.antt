@@ -1,4 +1,4 @@
--- The blank transducer keeps the rules, and relates nothing. Assumes nothing.
+-- The blank transducer is accepted, and relates nothing. Assumes nothing.
 use mathlib.Core.Path.{_≡_, refl, sym, _∙_}
 use mathlib.Core.Bool.{true, true≢false}
 use mathlib.Core.List.{[], List·Memᴰ·not-nil}
@@ -7,13 +7,13 @@ use native.Mathlib.Omega.{arith}
 use Rattle.transducer.specs.StateSet.{has, In, noStates}
 use Rattle.transducer.specs.Transition.{InputWord, OutputWord, firsts}
 use Rattle.transducer.specs.Blank.{blankTransducer}
-use Rattle.transducer.specs.Valid.{Valid, Shaped}
+use Rattle.transducer.specs.Valid.{Shaped}
 use Rattle.transducer.specs.Kept.{someBelow, usefulOf, usefulSet}
 use Rattle.transducer.specs.Lines.{transducerOf, Keeps}
 use Rattle.transducer.specs.Paths.{Relates}
 use Rattle.transducer.specs.Accepted.{acceptedOf}
 use Rattle.transducer.proofs.StateSetLaws.{has-none}
-use Rattle.transducer.proofs.LineLaws.{made-valid, made-shaped}
+use Rattle.transducer.proofs.LineLaws.{made-shaped}
 use Rattle.transducer.proofs.AcceptedLaws.{made-accepted}
 
 -- it is made of no lines
@@ -39,9 +39,6 @@ blank-keeps =
       few-lines = omega arith;
       used = λ v m. absurd (List·Memᴰ·not-nil m);
     }
-
-pub blank-valid : Valid blankTransducer
-blank-valid = rw blank-made (made-valid 1 noStates noStates [] .1 blank-keeps)
 
 -- no state of it is useful, as the set says that it keeps
 pub blank-accepted : acceptedOf blankTransducer ≡ true

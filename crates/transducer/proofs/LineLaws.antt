@@ -13,7 +13,7 @@ use Rattle.transducer.specs.Transition.{at, outside, firsts, outputAt, w
 use Rattle.transducer.specs.Blank.{clearTransition}
 use Rattle.transducer.specs.Valid.{Used, Clear, Valid, Shaped}
 use Rattle.transducer.specs.Kept.{usefulOf, usefulSet}
-use Rattle.transducer.specs.Lines.{linesOf, transducerOf, keeping, appended, Among, Keeps}
+use Rattle.transducer.specs.Lines.{linesOf, transducerOf, usefulIn, withSet, keeping, appended, Among, Keeps}
 use Rattle.transducer.specs.declared.OutputCode.{OutputCode}
 use Rattle.transducer.specs.declared.StateSet.{StateSet}
 use Rattle.transducer.specs.declared.Transition.{Transition}
@@ -165,25 +165,10 @@ made-of t lines few count size line clear =
 
 -- what is made of lines keeps their useful states, whatever set it kept before
 pub keeping-made : (n : ℕ) (starts finals : StateSet) (lines : List Transition) (u : StateSet)
-    → keeping (record {
-      states = n;
-      starts = starts;
-      finals = finals;
-      count = length lines;
-      transitions = lines ++ replicate (mostTransitions - length lines) clearTransition;
-      useful = u;
-    })
-    ≡ transducerOf n starts finals lines
+    → keeping (withSet (transducerOf n starts finals lines) u) ≡ transducerOf n starts finals lines
 unfolding transducerOf keeping
 keeping-made n starts finals lines u =
-    λ i. record {
-      states = n;
-      starts = starts;
-      finals = finals;
-      count = length lines;
-      transitions = lines ++ replicate (mostTransitions - length lines) clearTransition;
-      useful = usefulSet n starts finals (made-lines n starts finals lines i);
-    }
+    λ i. withSet (transducerOf n starts finals lines) (usefulSet n starts finals (made-lines n starts finals lines i))
 
 -- one that keeps the rules is made of its own parts
 pub made-keeping : (t : Transducer) → Valid t → Shaped t → transducerOf (t .states) (t .starts) (t .finals) (linesOf t) ≡ keeping t
@@ -207,9 +192,8 @@ clear-clear =
     }
 
 -- the set that is kept is no matter of theirs
-pub keeping-valid : (t : Transducer) → Valid (keeping t) ↔ Valid t
-unfolding keeping
-keeping-valid t = (
+pub set-valid : (t : Transducer) (s : StateSet) → Valid (withSet t s) ↔ Valid t
+set-valid t s = (
   λ v. record {
     some-state = v .some-state;
     few-states = v .few-states;
@@ -229,6 +213,10 @@ keeping-valid t = (
     beyond-clear = v .beyond-clear;
   },
 )
+
+pub keeping-valid : (t : Transducer) → Valid (keeping t) ↔ Valid t
+unfolding keeping
+keeping-valid t = set-valid t (usefulIn t)
 
 -- what is made keeps the rules exactly where its parts do
 module _ (n : ℕ) (starts finals : StateSet) (lines : List Transition) where

@@ -32,17 +32,13 @@ transducerOf n starts finals lines =
 abbrev pub usefulIn : Transducer → StateSet
 usefulIn t = usefulSet (t .states) (t .starts) (t .finals) (linesOf t)
 
--- t, keeping them, whatever it kept
+-- t, keeping the set s, whatever it kept
+abbrev pub withSet : Transducer → StateSet → Transducer
+withSet t s = record { states = t .states; starts = t .starts; finals = t .finals; count = t .count; transitions = t .transitions; useful = s }
+
+-- t, keeping its useful states
 unfoldable pub keeping : Transducer → Transducer
-keeping t =
-    record {
-      states = t .states;
-      starts = t .starts;
-      finals = t .finals;
-      count = t .count;
-      transitions = t .transitions;
-      useful = usefulIn t;
-    }
+keeping t = withSet t (usefulIn t)
 
 -- t with the line v behind its last
 abbrev pub appended : Transducer → Transition → Transducer

@@ -94,6 +94,7 @@ pub record Boundary : Type 0 where
   pub agreement : {f input output a a′ out out′ b b′ : List ℕ} {r s : ℕ} → Functional (tableOf f) → acceptsCode f input output a ≡ 0
       → mostWritten ≤ length out → translateAnswer ≤ length b → AcceptsGiven f input output a a′ r → TranslationGiven f input out out′ b b′ s
       → (getD a′ 0 0 ≡ 1) ↔ OutputGiven output out′ b′ s
+  -- so the look and `yotselina_useful_states` show the same flags
   pub states : {f flags flags₁ flags₂ : List ℕ} {r₁ r₂ : ℕ} → StatesGiven f flags flags₁ r₁ → StatesGiven f flags flags₂ r₂
       → (r₁ ≡ r₂) × (flags₁ ≡ flags₂)
   pub pairs : {f flags flags₁ flags₂ a a₁ a₂ : List ℕ} {r₁ r₂ : ℕ} → PairsGiven f flags flags₁ a a₁ r₁ → PairsGiven f flags flags₂ a a₂ r₂

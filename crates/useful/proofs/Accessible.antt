@@ -11,21 +11,16 @@ use Rattle.worklist.specs.Search.{Reach}
 use Rattle.worklist.specs.Search.Reach.{start, step as edge}
 use Rattle.transducer.specs.Limits.{mostStates}
 use Rattle.transducer.specs.StateSet.{has, In, noStates}
-use Rattle.transducer.specs.Valid.{Valid}
-use Rattle.transducer.specs.Lines.{linesOf, usefulIn}
 use Rattle.transducer.specs.Paths.{Path, here, step}
 use Rattle.transducer.specs.Useful.{UsefulState}
 use Rattle.transducer.specs.Reversal.{reversedOf}
 use Rattle.transducer.specs.Walks.{Edge}
 use Rattle.transducer.specs.declared.StateSet.{StateSet}
 use Rattle.transducer.specs.declared.Transducer.{Transducer}
-use Rattle.transducer.proofs.Bools.{same-flag}
 use Rattle.transducer.proofs.Facts.{in-below}
 use Rattle.transducer.proofs.PathLaws.{path-join}
 use Rattle.transducer.proofs.ReversalLaws.{reversed-path}
-use Rattle.transducer.proofs.StateSetLaws.{Long, has-none, same-set}
-use Rattle.transducer.proofs.LineLaws.{set-long}
-use Rattle.transducer.proofs.KeptLaws.{useful-in}
+use Rattle.transducer.proofs.StateSetLaws.{has-none}
 use Rattle.product.specs.Machine.{ImageOf}
 use Rattle.product.proofs.ImageLaws.{edge-of, leaves-of, to-of}
 use Rattle.wordsearch.specs.Nodes.{positionOf, stateOf, Leads, Ended}
@@ -129,11 +124,3 @@ useful-members there f back g c q = (
       let m = useful-accessible .0 u in
       c .members q .1 (searched-accessible there f q .1 (m .0), searched-accessible back g q .1 (m .1)),
 )
-
--- a set that has exactly the useful states is the one that is worked out
-pub set-worked-out : (t : Transducer) {s : StateSet} → Valid t → Long s → ((q : ℕ) → In s q ↔ UsefulState t q) → s ≡ usefulIn t
-set-worked-out t {s} valid long members =
-    same-set s (usefulIn t) long (set-long (t .states) (t .starts) (t .finals) (linesOf t))
-    (λ q. same-flag (has s q) (has (usefulIn t) q)
-    (λ m. useful-in t valid q .1 (members q .0 m))
-    (λ m. members q .1 (useful-in t valid q .0 m)))

@@ -40,7 +40,7 @@ pub struct UsefulStates {
     pub states: StateSet,
 }
 
-// What every entry point asks of a transducer's value first: whether it keeps the rules, and the set of its useful states.
+// What every entry point on a transducer's value but the panel's look asks first: whether it keeps the rules, and the set of its useful states.
 pub fn accepted(t: Transducer) -> bool
     ensures { λ r. ⌜ Asked t r ⌝ }
 {

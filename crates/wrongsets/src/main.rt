@@ -1,11 +1,12 @@
 // Table values that keep a set of states, right or wrong, handed to every call that takes a table (document 02, job 7): no file and no call makes a wrong one,
 // and C holds no value. The last are made by an edit and by a join.
-// A line for each value: its name, the number that each call answers, and what the look shows of the first four states. The calls, in this order: write,
+// A line for each value: its name, the number that each call answers, and what the look shows, a flag for each state. The calls, in this order: write,
 // verdict, translate, word test, join before and behind a table that is right, append, remove, useful states, useful pairs.
 use libc::STDOUT_FILENO;
 use transducer::StateSet;
 use transducer::Transducer;
 use transducer::Transition;
+use transducer::limits;
 
 // The calls.
 const CALLS: usize = 10;
@@ -14,7 +15,7 @@ const NAME: usize = 8;
 // Where the look begins in a line: behind the name and the numbers, of three bytes each.
 const LOOK: usize = NAME + CALLS * 3;
 // The states that the look is asked for.
-const SHOWN: usize = 4;
+const SHOWN: usize = limits::STATES;
 // The bytes of a line: the look has a space before it and a line end behind it.
 const LINE: usize = LOOK + SHOWN + 2;
 
@@ -22,6 +23,7 @@ fn main() {
     right_and_none();
     too_many();
     dead_end();
+    broken();
     blank();
     made();
 }
@@ -29,34 +31,43 @@ fn main() {
 // The one state that is start and final, and no state.
 fn right_and_none() {
     let none = StateSet::empty();
-    show(b"right   ", keeping(one_state(), none.with(0)));
-    show(b"none    ", keeping(one_state(), none));
+    show(b"right   ", with_set(one_state(), none.with(0)));
+    show(b"none    ", with_set(one_state(), none));
 }
 
 // With it, states that the table does not have.
 fn too_many() {
     let none = StateSet::empty();
     let zero = none.with(0);
-    show(b"beyond n", keeping(one_state(), zero.with(1)));
-    show(b"and 31  ", keeping(one_state(), zero.with(31)));
+    show(b"beyond n", with_set(one_state(), zero.with(1)));
+    show(b"and 31  ", with_set(one_state(), zero.with(31)));
 }
 
 // A second state, which does not finish: left out, and kept with all that is reached.
 fn dead_end() {
     let none = StateSet::empty();
     let zero = none.with(0);
-    show(b"dead end", keeping(with_dead_end(one_state()), zero));
+    show(b"dead end", with_set(with_dead_end(one_state()), zero));
     show(
         b"reached ",
-        keeping(with_dead_end(one_state()), zero.with(1)),
+        with_set(with_dead_end(one_state()), zero.with(1)),
     );
+}
+
+// A value that breaks a rule, of 40 states: the look shows what it keeps.
+fn broken() {
+    let none = StateSet::empty();
+    let zero = none.with(0);
+    let mut t = one_state();
+    t.states = 40;
+    show(b"n is 40 ", with_set(t, zero.with(31)));
 }
 
 // The blank table, with its own set, and with its state.
 fn blank() {
     let none = StateSet::empty();
-    show(b"blank   ", keeping(transducer::blank(), none));
-    show(b"blank, 0", keeping(transducer::blank(), none.with(0)));
+    show(b"blank   ", with_set(transducer::blank(), none));
+    show(b"blank, 0", with_set(transducer::blank(), none.with(0)));
 }
 
 // What an edit and a join make: start 0, final 1 and a line between them, that line removed again, and the table before one state.
@@ -66,7 +77,7 @@ fn made() {
     let edited = edits::remove(appended(), 0);
     let removed = edited.table;
     show(b"removed ", removed);
-    let joined = series::join(appended(), keeping(one_state(), none.with(0)));
+    let joined = series::join(appended(), with_set(one_state(), none.with(0)));
     let table = joined.table;
     show(b"joined  ", table);
 }
@@ -105,8 +116,8 @@ fn with_dead_end(mut t: Transducer) -> Transducer {
     t
 }
 
-// t, keeping this set.
-fn keeping(mut t: Transducer, useful: StateSet) -> Transducer {
+// t, keeping this set, whatever it is.
+fn with_set(mut t: Transducer, useful: StateSet) -> Transducer {
     t.useful = useful;
     t
 }
@@ -160,11 +171,11 @@ fn of_write(t: Transducer) -> u8 {
 
 // The number of the verdict.
 fn of_verdict(t: Transducer) -> u8 {
-    let mut word = [0u8; 2047];
-    let mut path_a = [0u16; 2047];
-    let mut path_b = [0u16; 2047];
-    let mut output_x = [0u8; 16376];
-    let mut output_y = [0u8; 16376];
+    let mut word = [0u8; witness::STEPS];
+    let mut path_a = [0u16; witness::STEPS];
+    let mut path_b = [0u16; witness::STEPS];
+    let mut output_x = [0u8; witness::CODES];
+    let mut output_y = [0u8; witness::CODES];
     let verdict = functionality::decide(
         t,
         &mut word,
@@ -195,7 +206,7 @@ fn of_test(t: Transducer) -> u8 {
 // The number of the join with one state, start and final, that keeps itself: before it, or behind it.
 fn of_join(t: Transducer, before: bool) -> u8 {
     let none = StateSet::empty();
-    let other = keeping(one_state(), none.with(0));
+    let other = with_set(one_state(), none.with(0));
     let joined = if before {
         series::join(t, other)
     } else {

@@ -3,7 +3,8 @@ use mathlib.Core.Path.{refl}
 use Prim.Native.Nat.{ℕ}
 use borrow.Author.Needs.{needs}
 use lib.ListN.{length-replicate}
-use Rattle.useful.proofs.Accessible.{useful-members, set-worked-out}
+use Rattle.transducer.proofs.AcceptedLaws.{set-worked-out}
+use Rattle.useful.proofs.Accessible.{useful-members}
 use Rattle.useful.proofs.worked_out.Statement.{statement}
 use Rattle.useful.proofs.worked_out.Tie as tie
 

@@ -9,22 +9,22 @@ use Rattle.wrongsets.proofs.show.Tie as tie
 
 -- the loops count up to the bytes of the name, the calls and the states that are shown
 abbrev Inv-loop : tie.InvT-loop
-Inv-loop name t line₀ i₀ t9 line i = (i ≤ 8) × (length line ≡ 44)
+Inv-loop name t line₀ i₀ t9 line i = (i ≤ 8) × (length line ≡ 72)
 
 abbrev μ-loop : tie.MeasureT-loop
 μ-loop name t line₀ i₀ t9 line i = 8 - i
 
 abbrev Inv-loop2 : tie.InvT-loop2
-Inv-loop2 name t line₀ numbers i₀ t9 line i = (i ≤ 10) × (length line ≡ 44)
+Inv-loop2 name t line₀ numbers i₀ t9 line i = (i ≤ 10) × (length line ≡ 72)
 
 abbrev μ-loop2 : tie.MeasureT-loop2
 μ-loop2 name t line₀ numbers i₀ t9 line i = 10 - i
 
 abbrev Inv-loop3 : tie.InvT-loop3
-Inv-loop3 name line₀ look q₀ t9 line q = (q ≤ 4) × (length line ≡ 44)
+Inv-loop3 name line₀ look q₀ t9 line q = (q ≤ 32) × (length line ≡ 72)
 
 abbrev μ-loop3 : tie.MeasureT-loop3
-μ-loop3 name line₀ look q₀ t9 line q = 4 - q
+μ-loop3 name line₀ look q₀ t9 line q = 32 - q
 
 loop-holds : tie.Need-loop-holds Inv-loop μ-loop Inv-loop2 μ-loop2 Inv-loop3 μ-loop3
 loop-holds c = (omega arith, search needs)
