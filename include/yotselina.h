@@ -222,7 +222,7 @@ uint32_t yotselina_useful_states(const uint8_t *file, size_t file_length, uint8_
  *   file, file_length   the bytes of the table file
  *   flags               at least YOTSELINA_STATES places: flag q is 1 if state q is useful, else 0 (also where the table has no state q)
  *
- * Reading a table works the set out once; the look shows it as it stands, and checks nothing.
+ * Reading the file works the set out; the look then shows it as it is kept, and works nothing out again.
  *
  * Refusals: 1 to 6 with the record; 7 if flags has fewer than YOTSELINA_STATES places.
  * Stack: 24,576 bytes.
