@@ -4,6 +4,7 @@ use mathlib.Core.Bool.{Bool, true, false, cond}
 use mathlib.Core.Logic.{inl, inr}
 use lib.Dec.{eqb}
 use Rattle.transducer.specs.Blank.{blankTransducer}
+use Rattle.transducer.specs.Valid.{Shaped}
 use Rattle.transducer.specs.Accepted.{acceptedOf}
 use Rattle.transducer.specs.declared.Transducer.{Transducer}
 use Rattle.transducer.proofs.AcceptedLaws.{accepted-kept}
@@ -23,17 +24,16 @@ use Rattle.panel.specs.Makings.{Making, blank, read, edited, joined, Mad
 
 -- ---- of all that is made
 
+-- what is accepted keeps its useful states
+shows : (t : Transducer) → acceptedOf t ≡ true → Shaped t → Looks t
+shows t a s = record { useful = accepted-kept t a; accepted = a; shaped = s }
+
 looks : (m : Making) (t : Transducer) → MadeBy m t → Looks t
-looks blank t e = rw e (record { useful = accepted-kept blankTransducer blank-accepted; accepted = blank-accepted; shaped = blank-shaped })
-looks (read text) t e =
-    rw e (record { useful = accepted-kept _ (read-accepted text); accepted = read-accepted text; shaped = read-shaped text })
-looks (edited m e w) t (t′, r, made, h, same) =
-    let before = looks m t′ made in
-    let accepted = one-accepted (before .accepted) h in
-    rw same (record { useful = accepted-kept _ accepted; accepted = accepted; shaped = h .shaped })
+looks blank t e = rw e (shows blankTransducer blank-accepted blank-shaped)
+looks (read text) t e = rw e (shows (readOf text .table) (read-accepted text) (read-shaped text))
+looks (edited m e w) t (t′, r, made, h, same) = rw same (shows (r .table) (one-accepted (looks m t′ made .accepted) h) (h .shaped))
 looks (joined m m′) t (first, second, r, made, made′, h, same) =
-    let accepted = in-series h .accepted in
-    rw same (record { useful = accepted-kept _ accepted; accepted = accepted; shaped = joined-shaped h (looks m′ second made′ .shaped) })
+    rw same (shows (r .table) (in-series h .accepted) (joined-shaped h (looks m′ second made′ .shaped)))
 
 there : (m : Making) → (t : Transducer) × MadeBy m t
 there blank = (blankTransducer, refl)
