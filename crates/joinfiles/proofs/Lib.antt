@@ -2,3 +2,4 @@
 mod Returns
 mod Numbers
 pub mod JoinLaws
+pub mod Fits

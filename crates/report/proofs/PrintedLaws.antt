@@ -35,7 +35,7 @@ use Rattle.report.proofs.ReportLaws.{lent-sized, refusal-listed, verdic
 -- ---- the verdict
 
 -- the buffers are lent in full
-lent-full : fullOf lent ≡ true
+pub lent-full : fullOf lent ≡ true
 unfolding longEnough
 lent-full = rw (lent-sized .word, lent-sized .path-a, lent-sized .path-b, lent-sized .output-x, lent-sized .output-y)
 

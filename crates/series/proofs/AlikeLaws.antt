@@ -1,28 +1,35 @@
 -- Joins of transducers that are alike are alike: what stands in others has the same joint steps there, so the joined pairs are the same, and each
--- line of the one result stands in the other. Assumes nothing.
+-- line of the one result stands in the other; and they are refused alike, but for 17. Assumes nothing.
 use mathlib.Core.Path.{_≡_, refl, sym, ap, _∙_}
 use mathlib.Core.Bool.{Bool, true, false, cond, _&&_}
 use mathlib.Core.List.{Memᴰ·cast, _++_, map}
 use Prim.Native.Nat.{ℕ, suc, _-_}
-use lib.Dec.{eqb}
+use borrow.Author.Tests.{le-leb}
+use lib.Dec.{eqb, leb}
 use lib.ListN.{length, replicate}
-use Rattle.transducer.specs.Limits.{mostStates}
+use Rattle.transducer.specs.Limits.{mostStates, mostTransitions}
+use Rattle.transducer.specs.Refusals.{moreThanOneCode, manyPairs, manyTransitions}
 use Rattle.transducer.specs.StateSet.{has}
 use Rattle.transducer.specs.Transition.{at}
 use Rattle.transducer.specs.Blank.{blankTransducer}
 use Rattle.transducer.specs.Lines.{transducerOf, AllAmong}
 use Rattle.transducer.specs.Walks.{Edge}
+use Rattle.transducer.specs.Accepted.{acceptedOf}
 use Rattle.transducer.specs.Alike.{Alike}
 use Rattle.transducer.specs.declared.StateSet.{StateSet}
 use Rattle.transducer.specs.declared.Transducer.{Transducer}
+use Rattle.transducer.proofs.Bools.{same-flag, and-both, all-of}
 use Rattle.transducer.proofs.LineLaws.{at-among, among-numbered}
 use Rattle.transducer.proofs.WithinLaws.{Within}
 use Rattle.transducer.proofs.AlikeLaws.{alike-self, alike-sym, alike-within}
 use Rattle.product.specs.Numbers.{pairOf, firstOf, secondOf}
-use Rattle.joints.specs.Joint.{JointPath, JoinedPair}
+use Rattle.joints.specs.Joint.{oneCode, JointPath, JoinedPair}
+use Rattle.joints.proofs.StepLaws.{at-most-one}
 use Rattle.joints.proofs.JointLaws.{Joint, together, first-alone, second-alone, joint-kind, joint-after, path-before}
 use Rattle.series.specs.Result.{stateOf, pairs, bothIn, taken, stepLine, lines, pairTransducer, resultOf}
-use Rattle.series.specs.Composition.{AlikeJoins}
+use Rattle.series.specs.Join.{sizeRefusal, refusalOf, joinable, numberOf, JoinedOf}
+use Rattle.series.specs.Composition.{AlikeJoins, SameUnlessMany, AlikeNumbers}
+use Rattle.series.specs.declared.Joined.{Joined}
 use Rattle.series.proofs.ResultLaws.{line-step, step-line, pair-lines}
 use Rattle.series.proofs.SeriesLaws.{taken-result, same-joined}
 
@@ -139,12 +146,55 @@ module _ (joined : ℕ → Bool) where
         go false = pairs-alike
 
 -- the pairs are the same
+module _ {first first′ second second′ : Transducer} (a : Alike first first′) (a′ : Alike second second′) where
+  same-pairs : {r r′ : Joined} (h : JoinedOf first second r) (k : JoinedOf first′ second′ r′) → joinable first second ≡ true
+      → joinable first′ second′ ≡ true → k .joined ≡ h .joined
+  same-pairs h k j j′ =
+      same-joined (k .joined) (h .joined) (k .exactly j′) (h .exactly j)
+      (λ v. pair-copied (alike-within (alike-sym a)) (alike-within (alike-sym a′)))
+      (λ v. pair-copied (alike-within a) (alike-within a′))
+
 pub alike-joins : AlikeJoins
 alike-joins first first′ second second′ r r′ a a′ h k e e′ =
     let t = taken-result h e in
     let t′ = taken-result k e′ in
-    let same : k .joined ≡ h .joined =
-    same-joined (k .joined) (h .joined) (k .exactly (t′ .0 .joins)) (h .exactly (t .0 .joins))
-    (λ v. pair-copied (alike-within (alike-sym a)) (alike-within (alike-sym a′)))
-    (λ v. pair-copied (alike-within a) (alike-within a′)) in
-    rw (t .1, t′ .1, same) (results-alike (h .joined) a a′)
+    rw (t .1, t′ .1, same-pairs a a′ h k (t .0 .joins) (t′ .0 .joins)) (results-alike (h .joined) a a′)
+
+-- ---- refusals
+
+-- a transducer within one whose lines write at most one code is such a one
+one-code-within : {t t′ : Transducer} → Within t t′ → oneCode t′ ≡ true → oneCode t ≡ true
+unfolding oneCode
+one-code-within {t} {t′} h one =
+    all-of (t .count) (λ l. leb (at t l .count) 1)
+    (λ l below. let n = among-numbered t′ (h .transitions (at t l) (at-among t l below)) in
+    rw (n .same) at (le-leb (at t′ (n .number) .count) 1 (at-most-one t′ one (n .number) (n .below))))
+
+-- of the same pairs, 16 comes of both or of neither
+sizes-alike : (first first′ second second′ : Transducer) (joined : ℕ → Bool)
+    → SameUnlessMany (sizeRefusal first second joined) (sizeRefusal first′ second′ joined)
+unfolding sizeRefusal
+sizes-alike first first′ second second′ joined =
+    go (leb (length (pairs joined)) mostStates) (leb (length (lines first second joined)) mostTransitions)
+    (leb (length (lines first′ second′ joined)) mostTransitions)
+  where
+    go : (p x y : Bool) → SameUnlessMany (cond p (cond x 0 manyTransitions) manyPairs) (cond p (cond y 0 manyTransitions) manyPairs)
+    go false x y = SameUnlessMany.same refl
+    go true true true = SameUnlessMany.same refl
+    go true false false = SameUnlessMany.same refl
+    go true true false = SameUnlessMany.second-many refl refl
+    go true false true = SameUnlessMany.first-many refl refl
+
+pub alike-numbers : AlikeNumbers
+unfolding refusalOf joinable
+alike-numbers first first′ second second′ r r′ a a′ f f′ s s′ h k = rw (h .number, k .number, f, f′, s, s′, sym codes) (go (oneCode first) refl)
+  where
+    codes : oneCode first ≡ oneCode first′
+    codes = same-flag (oneCode first) (oneCode first′) (one-code-within (alike-within (alike-sym a))) (one-code-within (alike-within a))
+
+    go : (b : Bool) → oneCode first ≡ b
+        → SameUnlessMany (cond b (sizeRefusal first second (h .joined)) moreThanOneCode) (cond b (sizeRefusal first′ second′ (k .joined)) moreThanOneCode)
+    go false e = SameUnlessMany.same refl
+    go true e =
+        rw (same-pairs a a′ h k (and-both (and-both f s) e) (and-both (and-both f′ s′) (sym codes ∙ e)))
+        (sizes-alike first first′ second second′ (h .joined))

@@ -1,6 +1,8 @@
--- What it says that nothing is refused, and that the refusals 8 and 15 do not look at the joined pairs. Assumes nothing.
+-- What it says that nothing is refused, that 8 is not the number of accepted transducers, and that the refusals 8 and 15 do not look at the joined pairs.
+-- Assumes nothing.
 use mathlib.Core.Path.{_≡_, refl}
 use mathlib.Core.Bool.{Bool, true, false, cond, _&&_, true≢false}
+use mathlib.Core.Logic.{_≢_}
 use Prim.Native.Nat.{ℕ, _≤_, _<_}
 use native.Mathlib.Omega.{arith}
 use borrow.Author.Tests.{leb-true}
@@ -48,6 +50,20 @@ not-refused first second joined e =
       few-lines = leb-true _ _ (transitions .0);
       joins = and-both (accepted .0) (codes .0);
     }
+
+-- accepted transducers are not refused with 8
+pub not-invalid : (first second : Transducer) (joined : ℕ → Bool) → acceptedOf first ≡ true → acceptedOf second ≡ true
+    → refusalOf first second joined ≢ invalid
+unfolding refusalOf sizeRefusal
+not-invalid first second joined a a′ =
+    rw (a, a′)
+    (go (oneCode first) (leb (length (pairs joined)) mostStates) (leb (length (lines first second joined)) mostTransitions))
+  where
+    go : (x y z : Bool) → cond x (cond y (cond z 0 manyTransitions) manyPairs) moreThanOneCode ≢ invalid
+    go true true true = λ e. omega arith
+    go true true false = λ e. omega arith
+    go true false z = λ e. omega arith
+    go false y z = λ e. omega arith
 
 -- where the two cannot be joined the refusal is 8 or 15, whatever the pairs
 pub refused-anyway : (first second : Transducer) (j k : ℕ → Bool) → joinable first second ≡ false

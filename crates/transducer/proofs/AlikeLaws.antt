@@ -23,7 +23,7 @@ use Rattle.transducer.specs.declared.Transition.{Transition}
 use Rattle.transducer.specs.declared.Transducer.{Transducer}
 use Rattle.transducer.proofs.Bools.{same-flag}
 use Rattle.transducer.proofs.StateSetLaws.{same-set}
-use Rattle.transducer.proofs.AcceptedLaws.{accepted-kept}
+use Rattle.transducer.proofs.AcceptedLaws.{accepted-kept, made-again}
 use Rattle.transducer.proofs.LineLaws.{place-among, lines-long, line-at, at-among, among-numbered, made-lines, appended-lines, each-line}
 use Rattle.transducer.proofs.WithinLaws.{Within, relates-within, functional-within, useful-state-within, useful-pair-within}
 
@@ -164,3 +164,10 @@ module _ {t t′ : Transducer} (h : Alike t t′) where
 
   pub alike-functional : Functional t ↔ Functional t′
   alike-functional = (functional-within back, functional-within there)
+
+  -- and where their lines stand in the same order they are one value: n, start and final states and lines are all that a table has
+  pub alike-ordered : linesOf t ≡ linesOf t′ → acceptedOf t ≡ true → acceptedOf t′ ≡ true → Shaped t → Shaped t′ → t ≡ t′
+  alike-ordered lines a a′ s s′ =
+      let starts : t .starts ≡ t′ .starts = same-set (t .starts) (t′ .starts) (s .starts) (s′ .starts) (h .starts) in
+      let finals : t .finals ≡ t′ .finals = same-set (t .finals) (t′ .finals) (s .finals) (s′ .finals) (h .finals) in
+      sym (made-again t a s) ∙ (λ i. transducerOf (h .states i) (starts i) (finals i) (lines i)) ∙ made-again t′ a′ s′

@@ -1,7 +1,7 @@
 -- Tables with the same lines (document 02, job 2: two tables are alike). How often a line stands in a table does not count, nor its place: document
 -- 000, definition 3.5, has the transitions as a set. Laws, in proofs/AlikeLaws.antt: to be alike is an equivalence (`alike-self`, `alike-sym`,
 -- `alike-trans`); a table with two lines exchanged is alike (`exchanged-alike`), and one with a line more behind the last exactly where that line stood
--- there already (`appended-alike`).
+-- there already (`appended-alike`); alike tables whose lines stand in the same order are one value (`alike-ordered`).
 use mathlib.Core.Path.{_≡_}
 use Prim.Native.Nat.{ℕ}
 use lib.ListN.{set}

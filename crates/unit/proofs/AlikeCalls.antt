@@ -35,10 +35,10 @@ module _ {f a a′ : List ℕ} {b b′ : Buffers} {r : ℕ} (h : VerdictGiven f 
   unfolding verdictCode
   past-answer = none-of _ (sym (h .code) ∙ z) .1
 
-  file-taken : Taken f
+  pub file-taken : Taken f
   file-taken = code-taken f (none-of _ past-answer .0)
 
-  in-full : JudgedInFull (file f) b b′ judgement
+  pub in-full : JudgedInFull (file f) b b′ judgement
   in-full = record { full = no-fault (fullOf b) (λ z. omega arith) (none-of _ (none-of _ past-answer .1) .0); judged = h .done z .judged }
 
   front-given : take 2 a′ ≡ flagOf (judgement .split) ∷ judgement .useful ∷ []

@@ -31,6 +31,9 @@ use Rattle.unit.proofs.Codes.{taken-code, code-taken, front, front-two}
 use Rattle.unit.proofs.WordCalls.{accepts-agreement}
 use Rattle.unit.proofs.AlikeCalls.{alike-verdict, alike-translation}
 use Rattle.unit.proofs.JoinCalls.{join-number-told, join-record-told, second-told, few-records, joined-file, alike-join}
+use Rattle.unit.proofs.Means.{verdict-means, single-join}
+use Rattle.unit.proofs.Returned.{file-returned, verdict-returned, translation-returned, accepts-returned, states-returned, pairs-returned}
+use Rattle.unit.proofs.Returned.{difference-returned, write-returned, edit-returned, join-returned, join-room}
 use Rattle.unit.proofs.EditCalls.{edited-file}
 use Rattle.unit.proofs.EditRows.{edit-rows}
 
@@ -232,8 +235,19 @@ boundary =
       second-told = second-told;
       small-number = joined-number;
       few-records = few-records;
+      check-returned = file-returned;
+      verdict-returned = verdict-returned;
+      translation-returned = translation-returned;
+      accepts-returned = accepts-returned;
+      states-returned = states-returned;
+      pairs-returned = pairs-returned;
+      difference-returned = difference-returned;
+      write-returned = write-returned;
+      edit-returned = edit-returned;
+      join-returned = join-returned;
       taken-exactly = λ f. (code-taken f, taken-code f);
       verdict = verdict-determined;
+      verdict-means = verdict-means;
       translation = translation-determined;
       alike-verdict = alike-verdict;
       alike-translation = alike-translation;
@@ -245,6 +259,8 @@ boundary =
       file = file-determined;
       join = join-determined;
       joined-file = joined-file;
+      single-join = single-join;
+      join-room = join-room;
       alike-join = alike-join;
       edit = edit-determined;
       edited-file = edited-file;

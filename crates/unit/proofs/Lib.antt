@@ -7,5 +7,7 @@ mod FileCalls
 mod AlikeCalls
 mod JoinCalls
 mod EditCalls
+mod Means
+mod Returned
 pub mod EditRows
 pub mod Boundary

@@ -5,11 +5,12 @@
 use mathlib.Core.Path.{_≡_}
 use mathlib.Core.Bool.{cond}
 use mathlib.Core.List.{List, [], _∷_}
-use mathlib.Core.Logic.{_↔_}
-use Prim.Native.Nat.{ℕ, _≤_, _<_, _/_, _%_}
+use mathlib.Core.Logic.{_≢_, _↔_, _⊎_}
+use Prim.Native.Nat.{ℕ, _*_, _≤_, _<_, _/_, _%_}
 use lib.Dec.{eqb}
 use lib.ListN.{length, getD, take}
 use Rattle.records.specs.Letters.{mostBytes}
+use Rattle.transducer.specs.Refusals.{tooShort, invalid}
 use Rattle.transducer.specs.Lines.{linesOf}
 use Rattle.transducer.specs.Paths.{Functional}
 use Rattle.transducer.specs.Alike.{Alike}
@@ -62,6 +63,17 @@ pub record EditsOfLines (f : List ℕ) (edits : List Edit) (returned f′ : List
   pub taken : Taken f′
   pub row : InARow (tableOf f) edits returned (tableOf f′)
 
+-- what a call returns, but for the join: the refusal's number in the low 16 bits, the record's in the 15 above, and bit 31 is 0; and the number is not 8,
+-- since a table that was read keeps every rule
+pub record Returned (r : ℕ) : Type 0 where
+  pub low : r < secondFlag
+  pub not-invalid : r % 65536 ≢ invalid
+
+-- what the join returns: the same, and bit 31
+pub record ReturnedByJoin (r : ℕ) : Type 0 where
+  pub low : r < 2 * secondFlag
+  pub not-invalid : r % 65536 ≢ invalid
+
 -- the laws of the exported functions
 pub record Boundary : Type 0 where
   -- the low 16 bits of a refusal are its number, the others the record's
@@ -73,10 +85,24 @@ pub record Boundary : Type 0 where
   pub second-told : (j : FileJoin) → j .number < 65536 → j .«record» < recordsTold → joinCode j / secondFlag ≡ flagOf (j .second)
   pub small-number : {f g out out′ : List ℕ} {j : FileJoin} → FilesJoined f g out out′ j → j .number < 65536
   pub few-records : {f g out out′ : List ℕ} {j : FileJoin} → FilesJoined f g out out′ j → j .«record» < recordsTold
+  -- no returned number is above its bits, and none is 8
+  pub check-returned : (f : List ℕ) → Returned (fileCode f)
+  pub verdict-returned : {f a a′ : List ℕ} {b b′ : Buffers} {r : ℕ} → VerdictGiven f b b′ a a′ r → Returned r
+  pub translation-returned : {f input out out′ a a′ : List ℕ} {r : ℕ} → TranslationGiven f input out out′ a a′ r → Returned r
+  pub accepts-returned : {f input output a a′ : List ℕ} {r : ℕ} → AcceptsGiven f input output a a′ r → Returned r
+  pub states-returned : {f flags flags′ : List ℕ} {r : ℕ} → StatesGiven f flags flags′ r → Returned r
+  pub pairs-returned : {f flags flags′ a a′ : List ℕ} {r : ℕ} → PairsGiven f flags flags′ a a′ r → Returned r
+  pub difference-returned : {x y a a′ : List ℕ} {r : ℕ} → DifferenceGiven x y a a′ r → Returned r
+  pub write-returned : {f out out′ a a′ : List ℕ} {r : ℕ} → FileGiven f out out′ a a′ r → Returned r
+  pub edit-returned : {f out out′ a a′ : List ℕ} {fault : ℕ} {e : Edit} {r : ℕ} → (fault ≡ 0) ⊎ (fault ≡ tooShort)
+      → EditGiven f fault e out out′ a a′ r → Returned r
+  pub join-returned : {f g out out′ a a′ : List ℕ} {r : ℕ} → JoinGiven f g out out′ a a′ r → ReturnedByJoin r
   -- `yotselina_check` returns 0 exactly where the file is taken
   pub taken-exactly : (f : List ℕ) → (fileCode f ≡ 0) ↔ Taken f
   pub verdict : {f a a₁ a₂ : List ℕ} {b b₁ b₂ : Buffers} {r₁ r₂ : ℕ} → VerdictGiven f b b₁ a a₁ r₁ → VerdictGiven f b b₂ a a₂ r₂
       → SameVerdict b₁ b₂ a₁ a₂ r₁ r₂
+  -- the first number of the answer is 0 exactly where the table is functional: what the laws below ask of a table is what the verdict says of it
+  pub verdict-means : {f a a′ : List ℕ} {b b′ : Buffers} {r : ℕ} → VerdictGiven f b b′ a a′ r → r ≡ 0 → (getD a′ 0 0 ≡ 0) ↔ Functional (tableOf f)
   -- on a split table the path that is followed is free
   pub translation : {f input out out₁ out₂ a a₁ a₂ : List ℕ} {r₁ r₂ : ℕ} → (Taken f → Functional (tableOf f))
       → TranslationGiven f input out out₁ a a₁ r₁ → TranslationGiven f input out out₂ a a₂ r₂ → (r₁ ≡ r₂) × (out₁ ≡ out₂) × (a₁ ≡ a₂)
@@ -107,6 +133,12 @@ pub record Boundary : Type 0 where
   -- document 02, job 3, from bytes to bytes: the file that is written is taken, and read to the join of the two tables; its relation is the
   -- composition of the two, and two single tables give a single one
   pub joined-file : {f g out out′ a a′ : List ℕ} {r : ℕ} → JoinGiven f g out out′ a a′ r → r ≡ 0 → FileInSeries f g (take (getD a′ 0 0) out′)
+  -- so two files that the verdict calls single are joined to one that it calls single
+  pub single-join : {f g out out′ a a′ : List ℕ} {r : ℕ} → JoinGiven f g out out′ a a′ r → r ≡ 0
+      → {b b′ d d′ e e′ : Buffers} {i i′ j j′ k k′ : List ℕ} {s t u : ℕ} → VerdictGiven f b b′ i i′ s → s ≡ 0 → getD i′ 0 0 ≡ 0
+      → VerdictGiven g d d′ j j′ t → t ≡ 0 → getD j′ 0 0 ≡ 0 → VerdictGiven (take (getD a′ 0 0) out′) e e′ k k′ u → u ≡ 0 → getD k′ 0 0 ≡ 0
+  -- with room for the longest file a join is not refused with 7
+  pub join-room : {f g out out′ a a′ : List ℕ} {r : ℕ} → JoinGiven f g out out′ a a′ r → mostBytes ≤ length out → r % 65536 ≢ tooShort
   -- files whose tables are alike are joined to files whose tables are alike, where neither call is refused
   pub alike-join : {f g out out′ a a′ f₂ g₂ d d′ c c′ : List ℕ} {r s : ℕ} → Alike (tableOf f) (tableOf f₂) → Alike (tableOf g) (tableOf g₂)
       → JoinGiven f g out out′ a a′ r → r ≡ 0 → JoinGiven f₂ g₂ d d′ c c′ s → s ≡ 0
