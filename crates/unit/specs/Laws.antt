@@ -138,7 +138,7 @@ pub record Boundary : Type 0 where
       → {b b′ d d′ e e′ : Buffers} {i i′ j j′ k k′ : List ℕ} {s t u : ℕ} → VerdictGiven f b b′ i i′ s → s ≡ 0 → getD i′ 0 0 ≡ 0
       → VerdictGiven g d d′ j j′ t → t ≡ 0 → getD j′ 0 0 ≡ 0 → VerdictGiven (take (getD a′ 0 0) out′) e e′ k k′ u → u ≡ 0 → getD k′ 0 0 ≡ 0
   -- with room for the longest file a join is not refused with 7
-  pub join-room : {f g out out′ a a′ : List ℕ} {r : ℕ} → JoinGiven f g out out′ a a′ r → mostBytes ≤ length out → r % 65536 ≢ tooShort
+  pub join-fits : {f g out out′ a a′ : List ℕ} {r : ℕ} → JoinGiven f g out out′ a a′ r → mostBytes ≤ length out → r % 65536 ≢ tooShort
   -- files whose tables are alike are joined to files whose tables are alike, where neither call is refused
   pub alike-join : {f g out out′ a a′ f₂ g₂ d d′ c c′ : List ℕ} {r s : ℕ} → Alike (tableOf f) (tableOf f₂) → Alike (tableOf g) (tableOf g₂)
       → JoinGiven f g out out′ a a′ r → r ≡ 0 → JoinGiven f₂ g₂ d d′ c c′ s → s ≡ 0
