@@ -1,6 +1,7 @@
 """The unit's library, called as C calls it: the archive as a shared object, and lent memory that is compared whole."""
 
 import ctypes
+import functools
 import os
 import subprocess
 import time
@@ -87,8 +88,9 @@ def link_shared(shared, archive, *sources):
         raise Missing(f"{archive} as a shared object: {complaint}")
 
 
+@functools.cache
 def build():
-    """The archive as a shared object, put in its place in one step; returns the archive."""
+    """The archive as a shared object, once for all parts and put in its place in one step; returns the archive."""
     archive = find_archive()
     SHARED.parent.mkdir(parents=True, exist_ok=True)
     new = SHARED.with_name(f"{SHARED.name}.{os.getpid()}")

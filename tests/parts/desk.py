@@ -8,7 +8,6 @@ import re
 import shutil
 import subprocess
 import sys
-import tempfile
 from itertools import product
 from pathlib import Path
 
@@ -26,6 +25,7 @@ from means.series import files_of
 from means.settings import share
 from means.tools import debian
 from means.transducer import FILE_SEEN, MAX_TESTED_INPUT, MAX_TESTED_OUTPUT, MAX_WORD, table_file
+from means.workers import spread
 
 sys.path.append(str(ROOT / "cli"))
 
@@ -54,7 +54,8 @@ class Tool:
         self.shared = self.archive.with_name("libyotselina.so")
         self.archive.parent.mkdir(parents=True)
         shutil.copytree(ROOT / "cli", folder / "cli")
-        (folder / "other").write_bytes(named.P_FILE)
+        for name in ("table", "other"):
+            (folder / name).write_bytes(named.P_FILE)
 
     def __call__(self, *words, stdout=subprocess.PIPE, **variables):
         """Exit status, standard output, standard error."""
@@ -325,10 +326,14 @@ def try_table(tool, findings, name, transducer, word, tests, draw):
         try_picture(tool, findings, content, transducer, said.witness, name)
 
 
-def try_tables(tool, findings):
-    """Document 01's small tables, and generated ones."""
+def try_named_tables(tool, findings):
+    """Document 01's small tables."""
     for name, transducer, _ in named.VERDICTS:
         try_table(tool, findings, name, transducer, b"\1", [(b"\1", b"\5")], len(transducer.transitions) <= 16)
+
+
+def try_tables(tool, findings):
+    """Generated tables."""
     for index in range(share(TABLES)):
         kind = KINDS[index % len(KINDS)]
         random = randomness("desk", kind, index)
@@ -371,14 +376,24 @@ def try_documents(tool, findings):
     findings.check(DOCUMENTS, faults, named.P_FILE, "docs/split.svg is the picture of tables/split")
 
 
-PARTS = (try_first_use, try_usage, try_files, try_refusals, try_words, try_joins, try_damaged, try_fake, try_tables, try_formats, try_documents)
+LONGEST_FIRST = (try_tables, try_files, try_named_tables, try_refusals, try_joins, try_words, try_usage, try_damaged, try_fake, try_formats,
+                 try_documents)
+
+
+def try_first(_, findings):
+    """The first use, in the current folder."""
+    try_first_use(Tool(Path.cwd()), findings)
+
+
+def try_one(archive, findings, part):
+    """One of the others, with a copy of the tool and the archive in the current folder."""
+    tool = Tool(Path.cwd())
+    shutil.copy(archive, tool.archive)
+    part(tool, findings)
 
 
 def run(findings):
-    """All of the above, with one copy of the tool."""
+    """All of the above, each with a copy of the tool."""
     debian("gcc")
     debian("dot", "graphviz")
-    with tempfile.TemporaryDirectory() as folder:
-        tool = Tool(Path(folder))
-        for part in PARTS:
-            part(tool, findings)
+    spread(find_archive, [*((try_one, part) for part in LONGEST_FIRST), (try_first,)], findings, batch=1)

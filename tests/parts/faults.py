@@ -4,14 +4,15 @@ threads must find."""
 import subprocess
 import tempfile
 from ctypes import c_uint8, c_uint16, c_uint64
+from itertools import product
 from pathlib import Path
 
 from means import alikes, atonce, differences, editing, everycall, joins, wordtests
 from means.findings import Findings
-from means.library import BY_VALUE, CALLS, SOURCES, Library, build, link_shared
+from means.library import BY_VALUE, CALLS, SOURCES, Library, build, compile_c, link_shared
 from means.named import WHOLE
 from means.stack import run_stack, stack_of_lists
-from means.tools import debian
+from means.tools import Missing, debian
 from means.transducer import MAX_FILE
 from means.workers import spread
 
@@ -245,113 +246,76 @@ def wrong_parts(folder, archive, fault):
     return folder / "wrong.c", folder / "right.a"
 
 
-def wrong_library(folder, archive, fault):
+def wrong_library(folder, archive, helpers, fault):
     """The shared object with the fault in it."""
     wrong, right = wrong_parts(folder, archive, fault)
-    link_shared(folder / "wrong.so", right, wrong, *HELPERS)
+    link_shared(folder / "wrong.so", right, wrong, *helpers)
     return Library(folder / "wrong.so")
 
 
-def compare_some(library, name):
-    """A small share of the comparisons."""
-    found = Findings()
+def compiled(folder):
+    """The helpers, compiled once for all faults."""
+    for helper in HELPERS:
+        complaint = compile_c("gcc", "-O1", "-fPIC", "-c", "-o", folder / f"{helper.stem}.o", helper)
+        if complaint:
+            raise Missing(f"{helper.name}: {complaint}")
+    return [folder / f"{helper.stem}.o" for helper in HELPERS]
+
+
+SOME_EDITS = [*product((editing.compare_list,), ("random, small",), range(TABLES))]
+SOME_LOOKS = [(editing.compare_looks,), *SOME_EDITS]
+
+
+def some_of(name):
+    """A small share of the comparisons of a call."""
     if name == "difference":
-        differences.compare_differences(library, found)
-        differences.compare_long(library, found)
-        return found
+        return [(differences.compare_differences,), (differences.compare_long,)]
     if name == "accepts":
-        wordtests.compare_known(library, found)
-        wordtests.compare_refusals(library, found)
-        for index in range(MIXED):
-            wordtests.compare_table(library, found, "few codes", index)
-        return found
-    if name in ("join", "append", "remove"):
-        (compare_joins if name == "join" else compare_edits)(library, found)
-        return found
-    for kind in KINDS:
-        for index in range(TABLES):
-            everycall.compare_table(library, found, kind, index)
-    for index in range(MIXED):
-        everycall.compare_mixed(library, found, index)
-    everycall.compare_orders(library, found)
-    return found
-
-
-def compare_joins(library, found):
-    """A small share of the comparisons of joins."""
-    for compare in (joins.compare_known, joins.compare_limits, joins.compare_refusals):
-        compare(library, found)
-    for index in range(MIXED):
-        joins.compare_pair(library, found, "random, small", index)
-        joins.compare_mixed(library, found, index)
-
-
-def compare_edits(library, found):
-    """A small share of the comparisons of edits."""
-    editing.compare_known(library, found)
-    for compare in (editing.compare_each, editing.compare_ways):
-        for name in ("table P", "255 lines"):
-            compare(library, found, name)
-    for refused in editing.REFUSED:
-        editing.compare_refusals(library, found, *refused)
-    for index in range(TABLES):
-        editing.compare_list(library, found, "random, small", index)
-
-
-def compare_looks(library, found):
-    """A small share of the looks at files that edits have made."""
-    editing.compare_looks(library, found)
-    for index in range(TABLES):
-        editing.compare_list(library, found, "random, small", index)
-
-
-def compare_alike(library, found, name):
-    """A small share of the comparisons of tables that are alike."""
+        return [(wordtests.compare_known,), (wordtests.compare_refusals,), *product((wordtests.compare_table,), ("few codes",), range(MIXED))]
     if name == "join":
-        for index in range(MIXED):
-            joins.compare_alike(library, found, index)
-        return
-    for kind in KINDS:
-        for index in range(TABLES):
-            alikes.compare_calls(library, found, kind, index)
+        return [(joins.compare_known,), (joins.compare_limits,), (joins.compare_refusals,), *product((joins.compare_mixed,), range(MIXED)),
+                *product((joins.compare_pair,), ("random, small",), range(MIXED))]
+    if name in ("append", "remove"):
+        return [(editing.compare_known,), *product((editing.compare_each, editing.compare_ways), ("table P", "255 lines")),
+                *((editing.compare_refusals, *refused) for refused in editing.REFUSED), *SOME_EDITS]
+    return [*product((everycall.compare_table,), KINDS, range(TABLES)), *product((everycall.compare_mixed,), range(MIXED)), (everycall.compare_orders,)]
 
 
-def compare_behind(library, found, name):
-    """The comparisons of files with bytes behind the last record; those of every count only where the others do not show the fault."""
-    everycall.compare_behind(library, found)
-    for whole in WHOLE if name == "check" else ():
-        if not found.failures:
-            everycall.compare_counts_behind(library, found, *whole)
+def comparisons_for(fault):
+    """Those that must find a fault: of its call, of looks, of tables that are alike, of bytes behind the last record, or of threads."""
+    name = fault[1]
+    if fault == SHARES:
+        return [(atonce.compare_threads,)] * TRIES
+    if fault in LOOKS:
+        return SOME_LOOKS
+    if fault in REPEATS:
+        return product((joins.compare_alike,), range(MIXED)) if name == "join" else product((alikes.compare_calls,), KINDS, range(TABLES))
+    if fault in BEHIND:
+        return [(everycall.compare_behind,), *((everycall.compare_counts_behind, *whole) for whole in WHOLE if name == "check")]
+    return some_of(name)
 
 
-def try_fault(_, findings, archive, fault):
+def found_by(comparisons, *parts):
+    """What the first of the comparisons that finds something finds in a library with a fault."""
+    found = Findings()
     with tempfile.TemporaryDirectory() as folder:
-        library = wrong_library(Path(folder), archive, fault)
-        found = Findings()
-        if fault == SHARES:
-            for _ in range(TRIES):
-                atonce.compare_threads(library, found)
-                if found.failures:
-                    break
-        elif fault in LOOKS:
-            compare_looks(library, found)
-        elif fault in REPEATS:
-            compare_alike(library, found, fault[1])
-        elif fault in BEHIND:
-            compare_behind(library, found, fault[1])
-        else:
-            found = compare_some(library, fault[1])
-    findings.check(GROUP, [] if found.failures else [f"not found: {fault[0]} ({fault[1]})"], b"")
+        library = wrong_library(Path(folder), *parts)
+        for compare, *given in comparisons:
+            compare(library, found, *given)
+            if found.failures:
+                break
+    return found.failures
 
 
-def try_no_rule(_, findings, archive, fault):
+def try_fault(_, findings, archive, helpers, fault):
+    found = found_by(comparisons_for(fault), archive, helpers, fault)
+    findings.check(GROUP, [] if found else [f"not found: {fault[0]} ({fault[1]})"], b"")
+
+
+def try_no_rule(_, findings, archive, helpers, fault):
     """misjoins.c, misedits.c or mislooks.c with no rule wrong: nothing is found."""
-    with tempfile.TemporaryDirectory() as folder:
-        library = wrong_library(Path(folder), archive, fault)
-        found = compare_some(library, fault[1])
-        if fault[1] == "look":
-            compare_looks(library, found)
-    findings.check_apart("joins, edits and looks with no rule wrong", [f"{group}: {faults}" for group, faults, _, _ in found.failures[:3]], b"", fault[1])
+    found = found_by([*some_of(fault[1]), *(SOME_LOOKS if fault[1] == "look" else ())], archive, helpers, fault)
+    findings.check_apart("joins, edits and looks with no rule wrong", [f"{group}: {faults}" for group, faults, _, _ in found[:3]], b"", fault[1])
 
 
 def try_copies(_, findings, archive):
@@ -363,6 +327,8 @@ def try_copies(_, findings, archive):
 
 def run(findings):
     archive = build()
-    jobs = [(try_fault, archive, fault) for fault in (*FAULTS, *LOOKS, *REPEATS, *BEHIND, SHARES)] + [(try_copies, archive)]
-    jobs += [(try_no_rule, archive, made("no rule")) for made in (misjoined, misappended, misremoved, mislooked)]
-    spread(Library, jobs, findings, batch=2)
+    with tempfile.TemporaryDirectory() as folder:
+        parts = archive, compiled(Path(folder))
+        jobs = [(try_fault, *parts, fault) for fault in (*FAULTS, *LOOKS, *REPEATS, *BEHIND, SHARES)] + [(try_copies, archive)]
+        jobs += [(try_no_rule, *parts, made("no rule")) for made in (misjoined, misappended, misremoved, mislooked)]
+        spread(Library, jobs, findings, batch=2)
