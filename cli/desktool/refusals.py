@@ -1,4 +1,4 @@
-"""The refusal numbers in words: cause and cure, as in the table of docs/MANUAL.md (tests/desk.py holds the two against each other)."""
+"""The refusal numbers in words: cause and cure, as in the table of docs/MANUAL.md (tests/parts/desk.py holds the two against each other)."""
 
 from typing import NamedTuple
 

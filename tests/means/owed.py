@@ -1,0 +1,189 @@
+"""What each call of the library owes, by the reference: which refusal, or what stands in each list that is lent."""
+
+import functools
+
+from means import generate, reference
+from means.library import CALLS, PAIRS
+from means.listing import Refusal, faults_of_witness
+from means.reference import AMBIGUOUS, Refused
+from means.transducer import LINE_PLACES, MAX_STATES, table_file
+
+ANSWER_TOO_SHORT = 100
+TOO_SHORT = 7
+LEVEL, FIRST_AHEAD, SECOND_AHEAD, CLASH = range(4)
+COMPARISONS = ("level", "first ahead", "second ahead", "clash")  # their names
+SHOWN = ("word", "path_a", "path_b", "output_x", "output_y")
+
+
+class Table:
+    """What a file holds, with everything worked out once, when it is asked for; `refused` is its refusal, or None."""
+
+    def __init__(self, content):
+        self.content, self.refused, self.known = content, None, {}
+        try:
+            self.transducer = reference.read(content)
+        except Refused as refused:
+            self.refused = refused
+
+    @functools.cached_property
+    def pairs(self):
+        return reference.useful_pairs(self.transducer)
+
+    @functools.cached_property
+    def functional(self):
+        return reference.functional(self.transducer, self.pairs)
+
+    def by_reference(self, question, *given):
+        """What the reference answers for this table; asked once."""
+        key = (question, *given)
+        if key not in self.known:
+            self.known[key] = question(self.transducer, *given)
+        return self.known[key]
+
+
+@functools.lru_cache(maxsize=200)
+def table_of(content):
+    return Table(content)
+
+
+def all_full(call):
+    """Refuses if some list is below its size."""
+    if any(call.sizes[lent] < size for lent, _, size in CALLS[call.name][1]):
+        raise Refused(TOO_SHORT)
+
+
+# --- one function for each call: what each list owes, by name; and the faults of what is free ---------------------------
+
+
+def owed_check(_table, _call):
+    return {}, []
+
+
+def owed_verdict(table, call):
+    """Which word and paths a split verdict shows is free: they are checked, and owed as they stand."""
+    all_full(call)
+    useful = len(table.pairs)
+    if table.functional:
+        return {"answer": (0, useful, 0, 0, 0, 0, 0)}, []
+    said = call.lent["answer"].items(7)
+    if said[:2] != (1, useful) or any(count > call.sizes[lent] for lent, count in zip(SHOWN, said[2:])):
+        return {}, [f"expected split, u {useful}, and counts of what fits; answered {said}"]
+    witness = tuple(call.lent[lent].items(count) for lent, count in zip(SHOWN, said[2:]))
+    return {"answer": said, **dict(zip(SHOWN, witness))}, faults_of_witness(table.transducer, useful, witness)
+
+
+def owed_translate(table, call):
+    """For a word with several outputs any of them will do, and 7 only if one of them does not fit."""
+    word, places = call.inputs[1], call.sizes["output"]
+    output = table.by_reference(reference.translate, word)
+    if output is AMBIGUOUS:
+        return owed_ambiguous(table, call, word, places)
+    if len(output) > places:
+        raise Refused(TOO_SHORT)
+    return {"output": output, "answer": (len(output),)}, []
+
+
+def owed_ambiguous(table, call, word, places):
+    if call.returned == TOO_SHORT and table.by_reference(reference.writes_longer, word, places):
+        raise Refused(TOO_SHORT)
+    (length,) = call.lent["answer"].items(1)
+    if length > places:
+        return {}, [f"answered {length} codes, lent {places} places"]
+    output = call.lent["output"].items(length)
+    faults = [] if table.by_reference(reference.relates, word, output) else [f"no accepting path writes {output}"]
+    return {"output": output, "answer": (length,)}, faults
+
+
+def owed_accepts(table, call):
+    return {"answer": (int(table.by_reference(reference.accepts, *call.inputs[1:])),)}, []
+
+
+def flags_of(states):
+    """A flag for each state that a table may have: 1 for these."""
+    return tuple(int(state in states) for state in range(MAX_STATES))
+
+
+def owed_useful_states(table, call):
+    """Also of the look: the same flags."""
+    all_full(call)
+    return {"flags": flags_of(table.by_reference(generate.useful_states))}, []
+
+
+def owed_useful_pairs(table, call):
+    all_full(call)
+    flags = tuple(int(divmod(place, MAX_STATES) in table.pairs) for place in range(PAIRS))
+    return {"flags": flags, "answer": (len(table.pairs),)}, []
+
+
+def owed_difference(_table, call):
+    x, y = call.inputs
+    common = next((place for place, (a, b) in enumerate(zip(x, y)) if a != b), min(len(x), len(y)))
+    if common < min(len(x), len(y)):
+        kind = CLASH
+    else:
+        kind = LEVEL if len(x) == len(y) else FIRST_AHEAD if len(x) > len(y) else SECOND_AHEAD
+    return {"answer": (kind, common)}, []
+
+
+def owed_file(call, content):
+    """A file that must fit."""
+    if len(content) > call.sizes["out"]:
+        raise Refused(TOO_SHORT)
+    return {"out": content, "answer": (len(content),)}, []
+
+
+def owed_write(table, call):
+    """The file's own bytes."""
+    return owed_file(call, table.content)
+
+
+def owed_join(table, call):
+    """The joined table's file. The second file is looked at after the first."""
+    second = table_of(call.inputs[1])
+    if second.refused:
+        raise Refused(second.refused.number, second.refused.record, second=True)
+    return owed_file(call, table_file(table.by_reference(reference.join, second.transducer)))
+
+
+def owed_append(table, call):
+    """The file with the line as its last. Of the line no more is looked at than its places; if it has fewer, nothing is."""
+    line = call.inputs[1]
+    if len(line) < LINE_PLACES:
+        raise Refused(TOO_SHORT)
+    return owed_file(call, table_file(table.by_reference(reference.append, line[:LINE_PLACES])))
+
+
+def owed_remove(table, call):
+    """The file without the line."""
+    return owed_file(call, table_file(table.by_reference(reference.remove, call.inputs[1])))
+
+
+OWED = {"check": owed_check, "verdict": owed_verdict, "translate": owed_translate, "accepts": owed_accepts,
+        "useful_states": owed_useful_states, "look": owed_useful_states, "useful_pairs": owed_useful_pairs, "difference": owed_difference,
+        "write": owed_write, "join": owed_join, "append": owed_append, "remove": owed_remove}
+
+
+# --- any call --------------------------------------------------------------------------------------------------------
+
+
+def owed(table, call):
+    """The refusals in their order: the answer list, the file, the call."""
+    answer = [size for lent, _, size in CALLS[call.name][1] if lent == "answer"]
+    if answer and call.sizes["answer"] < answer[0]:
+        raise Refused(ANSWER_TOO_SHORT)
+    if table is not None and table.refused:
+        raise table.refused
+    return OWED[call.name](table, call)
+
+
+def faults_of(table, call):
+    """What the call owes (a Refusal, or None for done), and in what it is not so. Everything lent is compared whole: what owes nothing must hold
+    what it held."""
+    try:
+        refusal, (lists, faults) = None, owed(table, call)
+    except Refused as refused:
+        refusal, lists, faults = Refusal(refused.number, refused.record, refused.second), {}, []
+    if call.refusal() != refusal:
+        faults = [f"expected {refusal or 'done'}, returned {call.refusal() or 'done'}"]
+        return refusal, faults + [f"{lent} is changed" for lent in call.changed({})]
+    return refusal, faults + [f"{lent} holds something else than it owes" for lent in call.changed(lists)]
