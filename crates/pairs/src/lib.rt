@@ -1,6 +1,6 @@
 // Useful pairs of states (document 01, "Useful states and useful pairs"), and the ways into and out of them. The contracts cite
 // specs/UsefulPairs.antt: `UsefulPairsOf`, what `useful_pairs` answers; and specs/Ways.antt: `WaysOut`,
-// `Discovered` and `WayIn`, what `ways_out` and `ways_in` leave.
+// `Discovered` and `WayIn`, what `ways_out` and `ways_in` leave. specs/Promises.antt has what else the verdict may know of the pairs.
 ghost use mathlib.Core.Bool.{true, false};
 ghost use mathlib.Core.Path.{_≡_};
 ghost use Prim.Native.Nat.{ℕ, _-_, _≤_, _<_};

@@ -19,10 +19,10 @@ use Rattle.transducer.proofs.Facts.{in-below}
 use Rattle.transducer.specs.StateSet.{has}
 use Rattle.transducer.specs.declared.StateSet.{StateSet}
 use Rattle.product.specs.Numbers.{mostPairs, firstOf, secondOf, labelOf, PairIn}
-use Rattle.product.specs.Steps.{pastLast, RowFrom, Steps, targetOf}
+use Rattle.product.specs.Steps.{pastLast, RowFrom, Steps, targetOf, Past}
 use Rattle.product.specs.Confined.{Allowed, offered, Begins, Goes, Ready}
 use Rattle.product.proofs.TargetLaws.{target-low}
-use Rattle.product.proofs.StepLaws.{Past, past-row-after, past-last-row}
+use Rattle.product.proofs.StepLaws.{past-row-after, past-last-row}
 
 -- two tests that hold do not fail together
 pub not-both : {a b : Bool} → a ≡ true → b ≡ true → (a && b) ≡ false → ⊥

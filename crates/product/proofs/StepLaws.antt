@@ -9,7 +9,7 @@ use native.Mathlib.Omega.{arith}
 use borrow.Author.Tests.{eq-eqb, ne-eqb}
 use Rattle.product.specs.Machine.{keyOf, Leaves, Along, Machine}
 use Rattle.product.specs.Numbers.{noTransition, firstOf, secondOf, sides, labelOf, Label}
-use Rattle.product.specs.Steps.{rowKey, Keyed, pastLast, Least, RowFrom, Steps, StepFrom}
+use Rattle.product.specs.Steps.{rowKey, Keyed, pastLast, Least, RowFrom, Steps, StepFrom, Past}
 use Rattle.product.specs.Steps.Steps.{by-both, by-left, by-right}
 
 -- where the left side takes l the right side steps beside its key
@@ -132,12 +132,6 @@ module _ {left right : List ℕ} (on-left : Machine left) (on-right : Machine ri
   row-over l e = record { above = omega arith; most = omega arith; has = λ z. absurd (omega arith); none = λ k a b s. omega arith }
 
 -- ---- a caller's two loops
-
-module _ (left right : List ℕ) where
-  -- no step of u has a label from `low` on and below `high`
-  pub record Past (u low high : ℕ) : Type 0 where
-    pub above : low ≤ high
-    pub none : (k : ℕ) → low ≤ k → k < high → Steps left right u k → ⊥
 
 module _ {left right : List ℕ} where
   -- between equal labels there is none

@@ -51,3 +51,8 @@ module _ (left right : List ℕ) where
   -- r is the first step of u in the row from `low` on, or 257: what the right side takes
   abbrev pub StepFrom : ℕ → ℕ → ℕ → ℕ → Type 0
   StepFrom u row low r = Least (λ m. Steps u (labelOf row m)) low r
+
+  -- no step of u has a label from `low` on and below `high`
+  pub record Past (u low high : ℕ) : Type 0 where
+    pub above : low ≤ high
+    pub none : (k : ℕ) → low ≤ k → k < high → Steps u k → ⊥
