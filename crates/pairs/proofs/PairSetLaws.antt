@@ -1,6 +1,5 @@
 -- Laws of sets of pairs and of the answer `UsefulPairsOf`: what a search that has found exactly the useful pairs answers; that the contract
--- determines the answer; that there are at most `mostPairs` useful pairs; that transducers that are alike have the same answer.
--- Assumes nothing.
+-- determines the answer; that there are at most `mostPairs` useful pairs. Assumes nothing.
 use mathlib.Core.Path.{_≡_, refl, sym, ap, _∙_}
 use mathlib.Core.Bool.{Bool, true, false, _&&_}
 use mathlib.Core.List.{List, [], _∷_}
@@ -13,12 +12,10 @@ use lib.Seq.{ext-getD}
 use Rattle.worklist.specs.Lists.{Worklist, Found, zeros}
 use Rattle.transducer.specs.Limits.{mostStates}
 use Rattle.transducer.specs.Accepted.{acceptedOf}
-use Rattle.transducer.specs.Alike.{Alike}
 use Rattle.transducer.specs.declared.StateSet.{StateSet}
 use Rattle.transducer.specs.declared.Transducer.{Transducer}
 use Rattle.transducer.proofs.Bools.{and-left, and-right, same-flag}
 use Rattle.transducer.proofs.AcceptedLaws.{accepted-valid}
-use Rattle.transducer.proofs.AlikeLaws.{alike-useful-pair}
 use Rattle.product.specs.Numbers.{mostPairs, pairOf, firstOf, secondOf}
 use Rattle.pairs.specs.UsefulPairs.{hasPair, noPairs, pairsOf, countTrue, numberOf, UsefulPairsOf}
 use Rattle.pairs.specs.Ways.{Tree}
@@ -148,20 +145,3 @@ at-most-pairs {r = r} a = omega (arith, a .counted, count-most (r .set .member),
 pub none-refused : {t : Transducer} {r : UsefulPairs} → UsefulPairsOf t r → acceptedOf t ≡ false → r .count ≡ 0
 unfolding noPairs
 none-refused a invalid = a .counted ∙ ap (λ s. countTrue (s .member)) (a .refused invalid) ∙ count-none mostPairs
-
--- transducers that keep the rules and are alike have the same answer
-pub alike-useful-pairs : {t t′ : Transducer} {r r′ : UsefulPairs} → Alike t t′ → acceptedOf t ≡ true → acceptedOf t′ ≡ true
-    → UsefulPairsOf t r → UsefulPairsOf t′ r′ → r ≡ r′
-alike-useful-pairs alike valid valid′ a a′ =
-    useful-pairs-determined
-    (record {
-      number = a .number ∙ rw (valid, valid′);
-      members = λ _ p q. (
-        λ h. alike-useful-pair alike .0 (a .members valid p q .0 h),
-        λ u. a .members valid p q .1 (alike-useful-pair alike .1 u),
-      );
-      refused = not-valid valid′;
-      counted = a .counted;
-      long = a .long;
-    })
-    a′

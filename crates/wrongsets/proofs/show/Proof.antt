@@ -1,9 +1,9 @@
 -- `show` stays within the line. Assumes nothing.
-use mathlib.Core.Path.{_≡_, _∙_}
+use mathlib.Core.Path.{_≡_}
 use Prim.Native.Nat.{_-_, _≤_}
 use native.Mathlib.Omega.{arith}
 use borrow.Author.Needs.{needs}
-use lib.ListN.{length, length-set, length-replicate}
+use lib.ListN.{length}
 use Rattle.wrongsets.proofs.show.Statement.{statement}
 use Rattle.wrongsets.proofs.show.Tie as tie
 
