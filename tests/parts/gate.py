@@ -146,7 +146,7 @@ EDITS = {
     "cannot_tell": (edit(REFUSED.replace("exit 1", "exit 3")), "unclear, exit status 3: proofs/Small.antt:1:1: error: 1 is not 2"),
     "not_said_to_be_unproved": (edit(REFUSED.replace(NOT_PROVED, "echo logic=proved")), "unclear, exit status 1"),
     "first_error_in_the_program": (edit(f"{ERROR.format('src/lib.rt', 'no type')}; {REFUSED}"), "unclear, exit status 1: src/lib.rt:1:1: error: no type"),
-    "no_error": (edit(f"{NOT_PROVED}; exit 1"), "unclear, exit status 1: "),
+    "no_error": (edit(f"{NOT_PROVED}; exit 1"), "unclear, exit status 1: no error: "),
     "shape": (edit(REFUSED.replace("1 is not 2", "there is no Need-7")), "only its shape is refused: proofs/Small.antt:1:1: error: there is no Need-7"),
     "not_there": (edit("exit 1", "exit 5"), "no such edit can be made: 'exit 5' stands 0 times in src/lib.rt"),
     "there_twice": (edit("false", "echo"), "no such edit can be made: 'echo' stands 2 times in src/lib.rt"),

@@ -75,14 +75,15 @@ class Checker:
         """In what an edit is not refused by its crate's contracts: for an error in specs/ or proofs/ that tells more than that a need has no name."""
         if not proved:
             return ["its crate is not proved without it, over target/rlib: run rt check"]
-        with tempfile.TemporaryDirectory() as folder:
+        with tempfile.TemporaryDirectory() as place:
+            folder = Path(place).resolve()
             try:
-                make(edit, Path(folder))
+                make(edit, folder)
             except (OSError, ValueError) as error:
                 return [f"no such edit can be made: {error}"]
-            status, said = self.check(edit.parts[-3], Path(folder), whole)
+            status, said = self.check(edit.parts[-3], folder, whole)
         first = re.search(r"^\S+: error.*", said, re.MULTILINE)
-        shown = first[0].removeprefix(f"{folder}/") if first else said[-300:]
+        shown = first[0].removeprefix(f"{folder}/") if first else f"no error: {said[-300:]}"
         if status == 0:
             return ["TAKEN: the crate is proved with it"]
         if status != 1 or not re.search("^logic=not-proved", said, re.MULTILINE) or not shown.startswith(("specs/", "proofs/")):
