@@ -1,6 +1,6 @@
 -- What the test of a transducer says, as facts, and back. Assumes nothing.
 use mathlib.Core.Path.{_≡_, refl}
-use mathlib.Core.Bool.{Bool, true, false, _&&_, _||_, not}
+use mathlib.Core.Bool.{Bool, true, false, false≢true, _&&_, _||_, not}
 use mathlib.Core.Logic.{⊎-elim, _↔_}
 use Prim.Native.Nat.{ℕ, _≤_, _<_}
 use native.Mathlib.Omega.{arith}
@@ -14,7 +14,7 @@ use Rattle.transducer.specs.Valid.{codeAt, Used, Clear, Valid, allBelow,
 use Rattle.transducer.specs.declared.Transition.{Transition}
 use Rattle.transducer.specs.declared.StateSet.{StateSet}
 use Rattle.transducer.specs.declared.Transducer.{Transducer}
-use Rattle.transducer.proofs.Bools.{le-or-lt, and-left, and-right, and-both, and-four, all-at, all-of}
+use Rattle.transducer.proofs.Bools.{le-or-lt, and-left, and-right, and-both, and-four, or-cases, or-right, all-at, all-of}
 
 -- ---- a set of states
 
@@ -26,11 +26,9 @@ in-below s q h = ltb-true q mostStates (and-left (ltb q mostStates) (getD (s .me
 module _ (n : ℕ) (s : StateSet) where
   pub set-facts : setOf n s ≡ true → (q : ℕ) → In s q → q < n
   unfolding setOf
-  set-facts e q h = ltb-true q n (drop-not (ltb q n) (rw h at (all-at mostStates (λ p. ltb p n || not (has s p)) e q (in-below s q h))))
-    where
-      drop-not : (b : Bool) → (b || false) ≡ true → b ≡ true
-      drop-not true e = refl
-      drop-not false e = e
+  set-facts e q h =
+      ⊎-elim (ltb-true q n) (λ z. absurd (false≢true z))
+      (or-cases (ltb q n) false (rw h at (all-at mostStates (λ p. ltb p n || not (has s p)) e q (in-below s q h))))
 
   facts-set : ((q : ℕ) → In s q → q < n) → setOf n s ≡ true
   unfolding setOf
@@ -38,11 +36,7 @@ module _ (n : ℕ) (s : StateSet) where
     where
       go : (q : ℕ) (b : Bool) → has s q ≡ b → (ltb q n || not (has s q)) ≡ true
       go q true e = rw (lt-ltb q n (f q e))
-      go q false e = rw e (or-true (ltb q n))
-        where
-          or-true : (b : Bool) → (b || true) ≡ true
-          or-true true = refl
-          or-true false = refl
+      go q false e = rw e (or-right (ltb q n) refl)
 
 -- ---- a transition
 
