@@ -16,7 +16,7 @@ use Rattle.transducer.specs.Walks.{Step, both, left, right, Move, Leaves}
 use Rattle.transducer.specs.declared.Transducer.{Transducer}
 use Rattle.product.specs.Numbers.{mostPairs, pairOf, noTransition, sides, labelOf, stepOf, Moves}
 use Rattle.product.specs.Machine.{ImageOf}
-use Rattle.product.proofs.Promises.{promises}
+use Rattle.product.proofs.Promises.{steps-promised}
 use Rattle.pairs.specs.Ways.{Useful}
 use Rattle.pairs.specs.declared.UsefulPairs.{UsefulPairs}
 use Rattle.witness.proofs.Fronts.{same-bytes}
@@ -41,15 +41,15 @@ record LabelOf (e : Step) : Type 0 where
 -- each step that leads from a pair to a pair has one
 label-of : {t : Transducer} → Valid t → (p q p′ q′ : ℕ) (e : Step) → Move t p q e p′ q′ → LabelOf e
 label-of valid p q p′ q′ (both l m) move =
-    let h = promises .edge-number valid (move .0) in
-    let h′ = promises .edge-number valid (move .1) in
-    record { label = labelOf l m; low = omega arith; is = promises .both-label l m h h′ }
+    let h = steps-promised .edge-number valid (move .0) in
+    let h′ = steps-promised .edge-number valid (move .1) in
+    record { label = labelOf l m; low = omega arith; is = steps-promised .both-label l m h h′ }
 label-of valid p q p′ q′ (left l) move =
-    let h = promises .edge-number valid (move .0) in
-    record { label = labelOf l noTransition; low = omega arith; is = promises .left-label l h }
+    let h = steps-promised .edge-number valid (move .0) in
+    record { label = labelOf l noTransition; low = omega arith; is = steps-promised .left-label l h }
 label-of valid p q p′ q′ (right m) move =
-    let h = promises .edge-number valid (move .1) in
-    record { label = labelOf noTransition m; low = omega arith; is = promises .right-label m h }
+    let h = steps-promised .edge-number valid (move .1) in
+    record { label = labelOf noTransition m; low = omega arith; is = steps-promised .right-label m h }
 
 -- what the tests are of: the lists are those of the transducer, and the pairs that count are the useful ones
 pub record Meant (t : Transducer) (m written out out-step gap : List ℕ) : Type 0 where
@@ -96,10 +96,10 @@ module _ {t : Transducer} {r : UsefulPairs} {out out-step : List ℕ} (ready : S
         let n′ = numbered (ready .valid) (ready .ways) p′ q′ h′ in
         let l = label-of valid p q p′ q′ e move in
         let moves : Moves t (pairOf p q) (l .label) (pairOf p′ q′) = rw (l .is, n .0, n .1, n′ .0, n′ .1) move in
-        let z = promises .move-steps (s .image) (pairOf p′ q′) moves in
+        let z = steps-promised .move-steps (s .image) (pairOf p′ q′) moves in
         let holds = at-pair p q h .steps .pass (l .label) (pairOf p′ q′) (l .low) (z .0) (z .1) (s .known (pairOf p′ q′) (useful-at p′ q′ h′)) in
         rw (l .is) at
-        (equation-exactly (s .outputs) (links-out ready) (l .label) (promises .label-low valid (pairOf p q) (l .label) (pairOf p′ q′) moves)
+        (equation-exactly (s .outputs) (links-out ready) (l .label) (steps-promised .label-low valid (pairOf p q) (l .label) (pairOf p′ q′) moves)
         (led-out ready (useful-at p q h)) (led-out ready (useful-at p′ q′ h′)) (way p q h) (way p′ q′ h′) .0 holds)
 
     all-pass : Functional t
@@ -122,7 +122,7 @@ module _ {t : Transducer} {r : UsefulPairs} {out out-step : List ℕ} (ready : S
         → (u : List Step) → WayPasses t out out-step u i → WayPasses t out out-step (u ++ (stepOf label ∷ [])) j → ⊥
     equation-differs i label j h h′ move fails u round step =
         fails
-        (equation-exactly (s .outputs) (links-out ready) label (promises .label-low valid i label j move) (led-out ready h) (led-out ready h′)
+        (equation-exactly (s .outputs) (links-out ready) label (steps-promised .label-low valid i label j move) (led-out ready h) (led-out ready h′)
         (round .leaves) (step .leaves) .1 (equations.holds t u (round .leaves) (stepOf label) (step .leaves) (round .same) (step .same)))
 
     pub differing : (f : Failure) → Broken (t .starts) m written out out-step gap (f .from) (f .label) (f .to) → Differing t out out-step f
@@ -133,8 +133,8 @@ module _ {t : Transducer} {r : UsefulPairs} {out out-step : List ℕ} (ready : S
           start = λ e. let z = b .start e in (z .0, uneven-differs (f .from) u (z .1));
           step = λ n.
               let z = b .step n in
-              let move = promises .steps-move (s .image) (z .step) (z .target) in
-              let j-low : f .to < mostPairs = rw (z .target) at (promises .target-low (s .image .machine) (s .image .machine) (b .inside) (z .step)) in
+              let move = steps-promised .steps-move (s .image) (z .step) (z .target) in
+              let j-low : f .to < mostPairs = rw (z .target) at (steps-promised .target-low (s .image .machine) (s .image .machine) (b .inside) (z .step)) in
               let u′ = s .useful (f .to) j-low (z .marked) in
               (u′, move, equation-differs (f .from) (f .label) (f .to) u u′ move (z .fails));
         }

@@ -14,7 +14,7 @@ use Rattle.transducer.proofs.AcceptedLaws.{accepted-valid}
 use Rattle.transducer.proofs.MoveLaws.{move-walk}
 use Rattle.transducer.proofs.WalkLaws.{walk-nil, reaches-step}
 use Rattle.product.specs.Numbers.{mostPairs, firstOf, secondOf, stepOf, Label, PairIn, Moves}
-use Rattle.product.proofs.Promises.{promises}
+use Rattle.product.proofs.Promises.{steps-promised}
 use Rattle.pairs.specs.Ways.{Useful, Way, WayIn}
 use Rattle.pairs.specs.declared.UsefulPairs.{UsefulPairs}
 use Rattle.witness.specs.Walk.{walkOf, Whole, Same}
@@ -48,7 +48,7 @@ module _ {t : Transducer} {r : UsefulPairs} {out out-step : List ℕ} (standing 
     led-by {v} u = record { inside = low v u; chain = w .chain v u; short = omega (arith, w .short v u, few) }
 
   pub links-out : Links out out-step
-  links-out = links-of (standing .ways .way-out) (standing .long-out) (standing .long-out-step) (λ j k v. promises .label-low valid v k j)
+  links-out = links-of (standing .ways .way-out) (standing .long-out) (standing .long-out-step) (λ j k v. steps-promised .label-low valid v k j)
 
   pub led-out : {v : ℕ} → Useful t v → Led out out-step v
   led-out = led-by (standing .ways .way-out)
@@ -83,7 +83,7 @@ module _ {t : Transducer} {r : UsefulPairs} {out out-step : List ℕ} (standing 
         → WaysOf into into-step out out-step i j
     ways-of long long′ u u′ =
         record {
-          into-links = links-of way-in long long′ (λ j k v. promises .label-low valid j k v);
+          into-links = links-of way-in long long′ (λ j k v. steps-promised .label-low valid j k v);
           out-links = links-out;
           enters = led-by way-in u;
           leaves = led-out u′;

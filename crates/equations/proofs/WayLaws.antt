@@ -19,7 +19,7 @@ use Rattle.transducer.proofs.WalkLaws.{walk-nil, reaches-step, leaves-step}
 use Rattle.product.specs.Numbers.{mostPairs, pairOf, firstOf, secondOf, stepOf}
 use Rattle.pairs.specs.Ways.{Useful, MovesBack, Way, WaysOut, WayIn}
 use Rattle.pairs.specs.declared.UsefulPairs.{UsefulPairs}
-use Rattle.pairs.proofs.Promises.{promises}
+use Rattle.pairs.proofs.Promises.{pairs-promised}
 use Rattle.witness.specs.Walk.{walkOf}
 
 -- labels joined are steps joined
@@ -65,13 +65,13 @@ module _ {t : Transducer} {r : UsefulPairs} {out out-step : List ℕ} (valid : a
     (ways : WaysOut t r out out-step) where
   -- the states of a useful pair are states, so its number is that of a pair
   states-low : (p q : ℕ) → UsefulPair t p q → (p < mostStates) × (q < mostStates)
-  states-low p q h = promises .low valid (ways .pairs) p q h
+  states-low p q h = pairs-promised .low valid (ways .pairs) p q h
 
   pub useful-low : (v : ℕ) → Useful t v → v < mostPairs
   useful-low v h = let l = states-low (firstOf v) (secondOf v) h in omega (arith, l .0)
 
   pub few-useful : r .count ≤ mostPairs
-  few-useful = promises .few (ways .pairs)
+  few-useful = pairs-promised .few (ways .pairs)
 
   -- a useful pair by its number
   pub numbered : (p q : ℕ) → UsefulPair t p q → (firstOf (pairOf p q) ≡ p) × (secondOf (pairOf p q) ≡ q)

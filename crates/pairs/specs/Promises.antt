@@ -1,6 +1,6 @@
 -- What the layers above may take from this one beside the contracts of `useful_pairs`, `ways_out` and `ways_in` (`UsefulPairsOf`, `WaysOut`,
 -- `Discovered`, `WayIn`): document 01, "the verdict knows the pairs only by what their layer promises". The verdict's crates, `equations` and
--- `functionality`, cite these contracts and the fields of `Promises`, and no other law of this crate. `promises` of proofs/Promises.antt proves it.
+-- `functionality`, cite these contracts and the fields of `PairsPromised`, and no other law of this crate. `pairs-promised` of proofs/Promises.antt proves it.
 use mathlib.Core.Path.{_≡_}
 use mathlib.Core.Bool.{true}
 use Prim.Native.Nat.{ℕ, _≤_, _<_}
@@ -14,7 +14,7 @@ use Rattle.pairs.specs.UsefulPairs.{hasPair, UsefulPairsOf}
 use Rattle.pairs.specs.declared.PairSet.{PairSet}
 use Rattle.pairs.specs.declared.UsefulPairs.{UsefulPairs}
 
-pub record Promises : Type 0 where
+pub record PairsPromised : Type 0 where
   -- a list that has 0 for each pair has no link: `ways_out` and `ways_in` may be lent one
   pub no-links : (v : ℕ) → getD {A = ℕ} (replicate mostPairs 0) v 0 ≡ 0
   -- of an accepted transducer, the two states of a useful pair are below 32, so that its number tells which they are

@@ -1,12 +1,12 @@
 -- What this crate promises of the steps of pairs. Assumes nothing.
-use Rattle.product.specs.Promises.{Promises}
+use Rattle.product.specs.Promises.{StepsPromised}
 use Rattle.product.proofs.LabelLaws.{both-label, left-label, right-label, edge-number, label-low}
 use Rattle.product.proofs.StepLaws.{step-label, past-steps, past-first-row, past-row-after, past-last-row}
 use Rattle.product.proofs.TargetLaws.{target-low}
 use Rattle.product.proofs.ImageLaws.{steps-move, move-steps}
 
-pub promises : Promises
-promises =
+pub steps-promised : StepsPromised
+steps-promised =
     record {
       edge-number = edge-number;
       both-label = both-label;

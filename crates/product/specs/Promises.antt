@@ -1,5 +1,5 @@
 -- What the verdict may take from this crate beside the contracts of its functions: the steps of pairs and their labels, as the definitions mean them.
--- `equations` cites the fields of `Promises`, and no other law of this crate. `promises` of proofs/Promises.antt proves it.
+-- `equations` cites the fields of `StepsPromised`, and no other law of this crate. `steps-promised` of proofs/Promises.antt proves it.
 use mathlib.Core.Path.{_≡_}
 use mathlib.Core.Bool.{false}
 use mathlib.Core.List.{List}
@@ -12,7 +12,7 @@ use Rattle.product.specs.Numbers.{mostPairs, noTransition, labelOf, Labe
 use Rattle.product.specs.Machine.{Machine, ImageOf}
 use Rattle.product.specs.Steps.{pastLast, RowFrom, Steps, targetOf, StepFrom, Past}
 
-pub record Promises : Type 0 where
+pub record StepsPromised : Type 0 where
   -- a transition in use has a number below 256, and the label of a step tells the transitions that it takes
   pub edge-number : {t : Transducer} → Valid t → {l p p′ : ℕ} → Edge t l p p′ → l < mostTransitions
   pub both-label : (l m : ℕ) → l < mostTransitions → m < mostTransitions → stepOf (labelOf l m) ≡ both l m

@@ -3,7 +3,7 @@
 use mathlib.Core.Path.{refl, _∙_}
 use native.Mathlib.Omega.{arith}
 use borrow.Author.Needs.{needs}
-use Rattle.pairs.proofs.Promises.{promises}
+use Rattle.pairs.proofs.Promises.{pairs-promised}
 use Rattle.equations.proofs.PlaceLaws.{way-stands}
 use Rattle.equations.proofs.TestLaws.{valid, links-out, led-out, ways-of, way-fails, round-candidate, round-fails, through-fails}
 use Rattle.equations.proofs.walk.Statement.{statement}
@@ -57,7 +57,7 @@ returns c =
 ways-in-requires : tie.Need-ways-in-requires
 ways-in-requires c κs =
     let a = begin (at-step c) .pre in
-    (a .0 .valid, (a .1 .0, (a .0 .ways .pairs, (refl, (refl, promises .no-links)))))
+    (a .0 .valid, (a .1 .0, (a .0 .ways .pairs, (refl, (refl, pairs-promised .no-links)))))
 
 round-requires : tie.Need-round-requires
 round-requires c κs =
