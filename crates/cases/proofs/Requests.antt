@@ -1,25 +1,24 @@
 -- Every case of document 02 in specs/Requests.antt holds: refusals by their equations, which compute; the small join by its joined pairs, which are all
 -- pairs of states. Assumes nothing.
-use mathlib.Core.Path.{_≡_, refl, sym, ap, _∙_}
+use mathlib.Core.Path.{_≡_, refl, _∙_}
 use mathlib.Core.Bool.{Bool, true, false, cond, _&&_}
-use mathlib.Core.List.{List, [], _∷_, _++_, map, List·Memᴰ}
+use mathlib.Core.List.{List, [], _∷_, List·Memᴰ}
 use mathlib.Core.Logic.{_↔_}
 use Prim.Native.Nat.{ℕ, zero, suc, _<_}
 use native.Mathlib.Omega.{arith}
 use borrow.Author.Tests.{ltb-true, lt-ltb}
-use lib.Dec.{eqb, leb, ltb}
-use lib.ListN.{length, replicate}
-use Rattle.transducer.specs.Refusals.{invalid, wordsTooLong, noInputCode, noOutputCode, firstOf}
+use lib.Dec.{eqb, ltb}
+use lib.ListN.{length}
+use Rattle.transducer.specs.Refusals.{wordsTooLong, noInputCode, noOutputCode, firstOf}
 use Rattle.transducer.specs.StateSet.{In, has, withState}
 use Rattle.transducer.specs.Transition.{firsts}
-use Rattle.transducer.specs.Valid.{Valid, allBelow, codeOf, codesOf, usedOf, lineOf, setOf}
+use Rattle.transducer.specs.Valid.{allBelow, codeOf, codesOf, usedOf, lineOf, setOf}
 use Rattle.transducer.specs.Codes.{allCodes}
 use Rattle.transducer.specs.Accepted.{acceptedOf}
 use Rattle.transducer.specs.Lines.{linesOf, transducerOf, without}
 use Rattle.transducer.specs.declared.Transducer.{Transducer}
 use Rattle.transducer.proofs.Bools.{and-left, and-right, and-both}
 use Rattle.transducer.proofs.AcceptedLaws.{accepted-valid}
-use Rattle.transducer.proofs.LineLaws.{made-lines}
 use Rattle.product.specs.Numbers as product
 use Rattle.wordtest.specs.Words as word
 use Rattle.joints.specs.Joint.{oneCode, jointStep, JointPath, JoinedPair}
@@ -28,8 +27,8 @@ use Rattle.series.specs.Result.{gather, pairsBelow, pairs, bothIn, leads, rowLi
 use Rattle.series.specs.Join as join
 use Rattle.series.proofs.SeriesLaws.{same-joined}
 use Rattle.edits.specs.Edits as edit
-use Rattle.cases.specs.Cases.{transitionOf, setOfStates, oneState, tableP}
-use Rattle.cases.specs.Requests.{Request, RequestHolds, tested, joined, not-joined, edited, not-edited, tableFirst, tableSecond, joinedLines, tableJoined, tableTwo, tableSix, tableFull, lineBeyond, requests}
+use Rattle.cases.specs.Cases.{setOfStates, oneState}
+use Rattle.cases.specs.Requests.{Request, RequestHolds, tested, joined, not-joined, edited, not-edited, tableFirst, tableSecond, joinedLines, tableJoined, tableTwo, tableSix, tableFull, requests}
 use Rattle.cases.proofs.Each.{Each, _also_, nothing, each-member}
 use Rattle.cases.proofs.Tables.{linesKeep, keepsOf, keeps-rules, no-lines-valid, P-valid}
 

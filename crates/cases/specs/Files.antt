@@ -1,7 +1,7 @@
 -- Small files and listings, byte for byte: the letters, columns and numbers of document 01 a second time, as it prints them. `files` and `listings` are the
 -- lists; proofs/Files.antt shows that every case of them holds.
 use mathlib.Core.Path.{_≡_}
-use mathlib.Core.Bool.{true, false}
+use mathlib.Core.Bool.{false}
 use mathlib.Core.List.{List, [], _∷_, _++_}
 use Prim.Native.Nat.{ℕ}
 use Prim.Native.Char.{code}

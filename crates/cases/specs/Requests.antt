@@ -15,7 +15,7 @@ use Rattle.series.specs.Join as join
 use Rattle.series.specs.declared.Joined.{Joined}
 use Rattle.edits.specs.Edits as edit
 use Rattle.edits.specs.declared.Edited.{Edited}
-use Rattle.cases.specs.Cases.{transitionOf, setOfStates, oneState, tableP, tableD}
+use Rattle.cases.specs.Cases.{transitionOf, setOfStates, oneState, tableP}
 
 -- ---- the kinds of cases
 

@@ -13,7 +13,7 @@ use Rattle.product.specs.Machine.{Machine, ImageOf}
 use Rattle.product.specs.Steps.{pastLast, RowFrom, Steps, targetOf, StepFrom, Past}
 
 pub record StepsPromised : Type 0 where
-  -- a transition in use has a number below 256, and the label of a step tells the transitions that it takes
+  -- a transition in use has a number below mostTransitions, and the label of a step tells the transitions that it takes
   pub edge-number : {t : Transducer} → Valid t → {l p p′ : ℕ} → Edge t l p p′ → l < mostTransitions
   pub both-label : (l m : ℕ) → l < mostTransitions → m < mostTransitions → stepOf (labelOf l m) ≡ both l m
   pub left-label : (l : ℕ) → l < mostTransitions → stepOf (labelOf l noTransition) ≡ left l

@@ -14,7 +14,6 @@ use Rattle.transducer.specs.Transition.{at}
 use Rattle.transducer.specs.Blank.{blankTransducer}
 use Rattle.transducer.specs.Lines.{transducerOf, AllAmong}
 use Rattle.transducer.specs.Walks.{Edge}
-use Rattle.transducer.specs.Accepted.{acceptedOf}
 use Rattle.transducer.specs.Alike.{Alike}
 use Rattle.transducer.specs.declared.StateSet.{StateSet}
 use Rattle.transducer.specs.declared.Transducer.{Transducer}
@@ -27,7 +26,7 @@ use Rattle.joints.specs.Joint.{oneCode, JointPath, JoinedPair}
 use Rattle.joints.proofs.StepLaws.{at-most-one}
 use Rattle.joints.proofs.JointLaws.{Joint, together, first-alone, second-alone, joint-kind, joint-after, path-before}
 use Rattle.series.specs.Result.{stateOf, pairs, bothIn, taken, stepLine, lines, pairTransducer, resultOf}
-use Rattle.series.specs.Join.{sizeRefusal, refusalOf, joinable, numberOf, JoinedOf}
+use Rattle.series.specs.Join.{sizeRefusal, refusalOf, joinable, JoinedOf}
 use Rattle.series.specs.Composition.{AlikeJoins, SameUnlessMany, AlikeNumbers}
 use Rattle.series.specs.declared.Joined.{Joined}
 use Rattle.series.proofs.ResultLaws.{line-step, step-line, pair-lines}

@@ -1,18 +1,18 @@
 -- What the first number of the verdict's answer means for C, and so what two single files join to. Assumes nothing.
 use mathlib.Core.Path.{_≡_, refl, sym, ap, _∙_}
-use mathlib.Core.Bool.{Bool, true, false, cond}
-use mathlib.Core.List.{List, [], _∷_}
-use mathlib.Core.Logic.{_↔_, _≢_}
-use Prim.Native.Nat.{ℕ, _≤_}
+use mathlib.Core.Bool.{Bool, true, false}
+use mathlib.Core.List.{List}
+use mathlib.Core.Logic.{_↔_}
+use Prim.Native.Nat.{ℕ}
 use native.Mathlib.Omega.{arith}
-use lib.ListN.{length, getD, take}
+use lib.ListN.{getD, take}
 use borrow.Author.Tests.{ne-eqb}
 use Rattle.transducer.specs.Paths.{Functional}
 use Rattle.tablereader.proofs.Validity.{read-accepted}
 use Rattle.witness.specs.Showing.{Buffers}
-use Rattle.functionality.specs.Decided.{refusalOf, verdictOf, fullOf}
+use Rattle.functionality.specs.Decided.{refusalOf, verdictOf}
 use Rattle.functionality.proofs.VerdictLaws.{refusal-none}
-use Rattle.engine.specs.Engine.{Taken, tableOf, judgementOf, VerdictOn}
+use Rattle.engine.specs.Engine.{tableOf, VerdictOn}
 use Rattle.engine.specs.declared.Judgement.{Judgement}
 use Rattle.engine.proofs.EngineLaws.{single-verdict}
 use Rattle.answers.specs.Answers.{flagOf, numbersOf}

@@ -35,7 +35,7 @@ use Rattle.wordtest.specs.Words as word
 use Rattle.witness.specs.Showing.{Buffers}
 use Rattle.functionality.specs.Decided.{fullOf}
 use Rattle.edits.specs.Edits.{Edit, append, remove, lineRefusal, editOf}
-use Rattle.engine.specs.Engine.{numberOf, recordOf, Taken, tableOf, FileTranslated}
+use Rattle.engine.specs.Engine.{numberOf, recordOf, tableOf, FileTranslated}
 use Rattle.engine.specs.declared.FileTranslation.{FileTranslation}
 use Rattle.joinfiles.specs.Joining.{FilesJoined}
 use Rattle.joinfiles.specs.declared.FileJoin.{FileJoin}
@@ -58,42 +58,53 @@ first-has P fault faults this others = go (eqb fault 0)
     go true = others
     go false = this
 
--- a small number other than 8, without a record
-small : (n : ℕ) → n < 65536 → n ≢ invalid → Returned n
-small n low other = record { low = omega arith; not-invalid = λ z. other (omega arith) }
+-- a number as it stands in the low 16 bits
+abbrev Told : ℕ → Type 0
+Told n = (n < 65536) × (n ≢ invalid)
 
-nothing : Returned (firstOf [])
-unfolding firstOf
-nothing = small 0 (omega arith) (λ z. omega arith)
+-- it is returned as it is, or with a record that a file can have
+plain : {n : ℕ} → Told n → Returned n
+plain {n} t = record { low = omega (arith, t .0); not-invalid = λ z. t .1 (omega (arith, t .0)) }
 
--- with a record that a file can have
-with-record : (n at : ℕ) → n < 65536 → n ≢ invalid → at ≤ 32767 → Returned (refusalCode n at)
+with-record : (n at : ℕ) → Told n → at ≤ 32767 → Returned (refusalCode n at)
 unfolding refusalCode
-with-record n at low other few = record { low = omega arith; not-invalid = λ z. other (omega arith) }
+with-record n at t few = record { low = omega (arith, t .0); not-invalid = λ z. t .1 (omega (arith, t .0)) }
+
+none-told : Told 0
+none-told = (omega arith, λ z. omega arith)
+
+short-told : Told tooShort
+short-told = (omega arith, λ z. omega arith)
+
+answer-told : Told answerTooShort
+answer-told = (omega arith, λ z. omega arith)
 
 -- a test and its fault
-tested : (x : Bool) (fault : ℕ) → Returned fault → Returned (cond x 0 fault)
-tested true fault h = small 0 (omega arith) (λ z. omega arith)
-tested false fault h = h
+test-told : (x : Bool) (fault : ℕ) → Told fault → Told (cond x 0 fault)
+test-told true fault h = none-told
+test-told false fault h = h
 
-too-short : Returned tooShort
-too-short = small 7 (omega arith) (λ z. omega arith)
+-- where there is no fault
+nothing-told : Told (firstOf [])
+unfolding firstOf
+nothing-told = none-told
 
-answer-too-short : Returned answerTooShort
-answer-too-short = small 100 (omega arith) (λ z. omega arith)
+nothing : Returned (firstOf [])
+nothing = plain nothing-told
 
-room-returned : (n : ℕ) (list : List ℕ) (fault : ℕ) → Returned fault → Returned (roomFault n list fault)
+room-returned : (n : ℕ) (list : List ℕ) (fault : ℕ) → Told fault → Returned (roomFault n list fault)
 unfolding roomFault
 room-returned n list fault h = go (ltb (length list) n)
   where
     go : (x : Bool) → Returned (cond x fault 0)
-    go true = h
-    go false = small 0 (omega arith) (λ z. omega arith)
+    go true = plain h
+    go false = plain none-told
+
+file-told : (f : List ℕ) → Told (numberOf f)
+file-told f = let low = number-low (readOf f .outcome) in (omega (arith, low), λ z. omega (arith, low))
 
 pub file-returned : (f : List ℕ) → Returned (fileCode f)
-file-returned f =
-    let low = number-low (readOf f .outcome) in
-    with-record (numberOf f) (recordOf f) (omega (arith, low)) (λ z. omega (arith, low)) (omega (arith, read-record f))
+file-returned f = with-record (numberOf f) (recordOf f) (file-told f) (omega (arith, read-record f))
 
 -- ---- calls that look at the file and at what is lent
 
@@ -101,26 +112,26 @@ pub verdict-returned : {f a a′ : List ℕ} {b b′ : Buffers} {r : ℕ} → Ve
 unfolding verdictCode
 verdict-returned {f} {b = b} h =
     rw (h .code)
-    (first-has Returned _ _ (room-returned _ _ _ answer-too-short) (first-has Returned _ _ (file-returned f) (first-has Returned _ _ (tested (fullOf b) _ too-short) nothing)))
+    (first-has Returned _ _ (room-returned _ _ _ answer-told) (first-has Returned _ _ (file-returned f) (first-has Returned _ _ (plain (test-told (fullOf b) _ short-told)) nothing)))
 
 pub states-returned : {f flags flags′ : List ℕ} {r : ℕ} → StatesGiven f flags flags′ r → Returned r
 unfolding statesCode
-states-returned {f} h = rw (h .code) (first-has Returned _ _ (file-returned f) (first-has Returned _ _ (room-returned _ _ _ too-short) nothing))
+states-returned {f} h = rw (h .code) (first-has Returned _ _ (file-returned f) (first-has Returned _ _ (room-returned _ _ _ short-told) nothing))
 
 pub pairs-returned : {f flags flags′ a a′ : List ℕ} {r : ℕ} → PairsGiven f flags flags′ a a′ r → Returned r
 unfolding pairsCode
 pairs-returned {f} h =
     rw (h .code)
-    (first-has Returned _ _ (room-returned _ _ _ answer-too-short) (first-has Returned _ _ (file-returned f) (first-has Returned _ _ (room-returned _ _ _ too-short) nothing)))
+    (first-has Returned _ _ (room-returned _ _ _ answer-told) (first-has Returned _ _ (file-returned f) (first-has Returned _ _ (room-returned _ _ _ short-told) nothing)))
 
 pub difference-returned : {x y a a′ : List ℕ} {r : ℕ} → DifferenceGiven x y a a′ r → Returned r
-difference-returned h = rw (h .code) (room-returned _ _ _ answer-too-short)
+difference-returned h = rw (h .code) (room-returned _ _ _ answer-told)
 
 pub write-returned : {f out out′ a a′ : List ℕ} {r : ℕ} → FileGiven f out out′ a a′ r → Returned r
 unfolding writeCode
 write-returned {f} h =
     rw (h .code)
-    (first-has Returned _ _ (room-returned _ _ _ answer-too-short) (first-has Returned _ _ (file-returned f) (first-has Returned _ _ (room-returned _ _ _ too-short) nothing)))
+    (first-has Returned _ _ (room-returned _ _ _ answer-told) (first-has Returned _ _ (file-returned f) (first-has Returned _ _ (room-returned _ _ _ short-told) nothing)))
 
 -- ---- the word test
 
@@ -129,25 +140,25 @@ unfolding word.refusalOf
 words-returned t input output a = rw a (go (word.shortOf input output) (allCodes input) (allCodes output))
   where
     go : (x y z : Bool) → Returned (cond x (cond y (cond z 0 refusal.noOutputCode) refusal.noInputCode) refusal.wordsTooLong)
-    go true true true = small 0 (omega arith) (λ z. omega arith)
-    go true true false = small 14 (omega arith) (λ z. omega arith)
-    go true false z = small 10 (omega arith) (λ z. omega arith)
-    go false y z = small 13 (omega arith) (λ z. omega arith)
+    go true true true = plain none-told
+    go true true false = plain (omega arith, λ z. omega arith)
+    go true false z = plain (omega arith, λ z. omega arith)
+    go false y z = plain (omega arith, λ z. omega arith)
 
 pub accepts-returned : {f input output a a′ : List ℕ} {r : ℕ} → AcceptsGiven f input output a a′ r → Returned r
 unfolding acceptsCode
 accepts-returned {f} {input} {output} h =
     rw (h .code)
-    (first-has Returned _ _ (room-returned _ _ _ answer-too-short)
+    (first-has Returned _ _ (room-returned _ _ _ answer-told)
     (first-has Returned _ _ (file-returned f) (first-has Returned _ _ (words-returned (tableOf f) input output (read-accepted f)) nothing)))
 
 -- ---- the translation
 
 -- no translation by an accepted table is refused with 8, and every number is small
-translator-number : {t : Transducer} {input out out′ : List ℕ} {v : Translation} → acceptedOf t ≡ true → Translated t input out out′ v
-    → (translation.numberOf v < 65536) × (translation.numberOf v ≢ invalid)
+translator-told : {t : Transducer} {input out out′ : List ℕ} {v : Translation} → acceptedOf t ≡ true → Translated t input out out′ v
+    → Told (translation.numberOf v)
 unfolding translated.refusalOf
-translator-number {t} {input} {out} {out′} {v} a h = (small-number v, λ z. never z)
+translator-told {t} {input} {out} {out′} {v} a h = (small-number v, λ z. never z)
   where
     small-number : (v : Translation) → translation.numberOf v < 65536
     small-number (Translation.Written n) = omega arith
@@ -183,8 +194,7 @@ by-file {f} {q = q} h = go (ℕ-discrete (numberOf f) 0)
     go : Dec (numberOf f ≡ 0) → Returned (refusalCode (q .number) (q .«record»))
     go (yes z) =
         let by = h .taken z in
-        let n = translator-number (read-accepted f) (by .translated) in
-        rw (by .answer) (with-record _ 0 (n .0) (n .1) (omega arith))
+        rw (by .answer) (with-record _ 0 (translator-told (read-accepted f) (by .translated)) (omega arith))
     go (no n) = rw (h .refused n .0) (file-returned f)
 
 pub translation-returned : {f input out out′ a a′ : List ℕ} {r : ℕ} → TranslationGiven f input out out′ a a′ r → Returned r
@@ -195,35 +205,20 @@ translation-returned {a = a} h = rw (h .code) (go (le-or-lt translateAnswer (len
     code = refusalCode (h .translation .number) (h .translation .«record»)
 
     go : (translateAnswer ≤ length a) ⊎ (length a < translateAnswer) → Returned (firstOf (roomFault translateAnswer a answerTooShort ∷ code ∷ []))
-    go (inl long) = first-has Returned _ _ (room-returned _ _ _ answer-too-short) (first-has Returned _ _ (by-file (h .translated long)) nothing)
-    go (inr few) = rw (← this-one (code ∷ []) (no-room _ a answerTooShort few) (λ z. omega arith)) answer-too-short
+    go (inl long) = first-has Returned _ _ (room-returned _ _ _ answer-told) (first-has Returned _ _ (by-file (h .translated long)) nothing)
+    go (inr few) = rw (← this-one (code ∷ []) (no-room _ a answerTooShort few) (λ z. omega arith)) (plain answer-told)
 
 -- ---- an edit
 
--- a number as it stands in the low 16 bits
-abbrev Told : ℕ → Type 0
-Told n = (n < 65536) × (n ≢ invalid)
-
-test-told : (x : Bool) (fault : ℕ) → Told fault → Told (cond x 0 fault)
-test-told true fault h = (omega arith, λ z. omega arith)
-test-told false fault h = h
-
-none-told : Told (firstOf [])
-unfolding firstOf
-none-told = (omega arith, λ z. omega arith)
-
-file-told : (f : List ℕ) → Told (numberOf f)
-file-told f = let low = number-low (readOf f .outcome) in (omega (arith, low), λ z. omega (arith, low))
-
-short-told : (t : Transducer) (out : List ℕ) → Told (shortFault t out)
+written-told : (t : Transducer) (out : List ℕ) → Told (shortFault t out)
 unfolding shortFault
-short-told t out = test-told (leb (length (writeOf t)) (length out)) tooShort (omega arith, λ z. omega arith)
+written-told t out = test-told (leb (length (writeOf t)) (length out)) tooShort short-told
 
 lines-told : (t : Transducer) (e : Edit) → Told (lineRefusal (t .states) (linesOf t) e)
 unfolding lineRefusal
 lines-told t (append v) =
     first-has Told _ _ (test-told (lineOf (t .states) v) _ (omega arith, λ z. omega arith))
-    (first-has Told _ _ (test-told (ltb (length (linesOf t)) mostTransitions) _ (omega arith, λ z. omega arith)) none-told)
+    (first-has Told _ _ (test-told (ltb (length (linesOf t)) mostTransitions) _ (omega arith, λ z. omega arith)) nothing-told)
 lines-told t (remove l) = test-told (ltb l (length (linesOf t))) _ (omega arith, λ z. omega arith)
 
 edit-told : (f : List ℕ) (fault : ℕ) (e : Edit) (out : List ℕ) → (fault ≡ 0) ⊎ (fault ≡ tooShort) → Told (editNumber f fault e out)
@@ -231,16 +226,15 @@ unfolding editNumber
 edit-told f fault e out line =
     first-has Told _ _ (file-told f)
     (first-has Told _ _ (⊎-elim (λ z. rw z (omega arith, λ z. omega arith)) (λ z. rw z (omega arith, λ z. omega arith)) line)
-    (first-has Told _ _ (lines-told (tableOf f) e) (first-has Told _ _ (short-told (editOf (tableOf f) e) out) none-told)))
+    (first-has Told _ _ (lines-told (tableOf f) e) (first-has Told _ _ (written-told (editOf (tableOf f) e) out) nothing-told)))
 
 pub edit-returned : {f out out′ a a′ : List ℕ} {fault : ℕ} {e : Edit} {r : ℕ} → (fault ≡ 0) ⊎ (fault ≡ tooShort) → EditGiven f fault e out out′ a a′ r
     → Returned r
 unfolding editCode
 edit-returned {f} {out} {fault = fault} {e} line h =
-    let t = edit-told f fault e out line in
     rw (h .code)
-    (first-has Returned _ _ (room-returned _ _ _ answer-too-short)
-    (first-has Returned _ _ (with-record (editNumber f fault e out) (recordOf f) (t .0) (t .1) (omega (arith, read-record f))) nothing))
+    (first-has Returned _ _ (room-returned _ _ _ answer-told)
+    (first-has Returned _ _ (with-record (editNumber f fault e out) (recordOf f) (edit-told f fault e out line) (omega (arith, read-record f))) nothing))
 
 -- ---- a join
 
