@@ -1,16 +1,18 @@
-// What the exported functions of `unit` return, and how their numbers and flags are put into lists. The contracts cite specs/Answers.antt.
+// What the exported functions of `unit` return, and how they put numbers, flags and tables into the lists that are lent. The contracts cite
+// specs/Answers.antt.
 ghost use mathlib.Core.Path.{_≡_};
 ghost use mathlib.Core.List.{map};
-ghost use Prim.Native.Nat.{_≤_, _<_};
+ghost use Prim.Native.Nat.{_≤_};
 ghost use lib.ListN.{length};
 ghost use Rattle.buffers.specs.Put.{put};
+ghost use Rattle.transducer.specs.Valid.{Shaped};
 ghost use Rattle.tablereader.specs.Outcome.{numberOf, recordOf};
-ghost use Rattle.answers.specs.Answers.{refusalCode, recordsTold, verdictAnswer, joinAnswer, flagOf, kindOf, numbersOf, Given, JoinEnded, StatesEnded};
-use engine::Judgement;
-use joinfiles::FileJoin;
+ghost use Rattle.functionality.specs.Decided as decision;
+ghost use Rattle.held.specs.Held.{heldSize};
+ghost use Rattle.answers.specs.Answers.{refusalCode, verdictAnswer, flagOf, kindOf, numbersOf, Given, Flagged, HeldIn};
+use functionality::Verdict;
 use tablereader::Outcome;
-use transducer::StateSet;
-use transducer::limits;
+use transducer::Transducer;
 use transducer::refusals;
 use words::Comparison;
 
@@ -26,26 +28,12 @@ pub const PAIRS: usize = 1;
 pub const DIFFERENCE: usize = 2;
 // The answer to a writing: a byte count.
 pub const WRITE: usize = 1;
-// The answer to a join of two files: a byte count.
-pub const JOIN: usize = 1;
-// The answer to an edit of a file: a byte count.
-pub const EDIT: usize = 1;
 
-// What is added to the refusal of the second of two files: bit 31.
-const SECOND: u32 = 2147483648;
-
-// A refusal as one number: its own number in the low 16 bits, the record's number above.
-pub fn refusal(number: u16, at: u16) -> u32
-    ensures { λ r. ⌜ r ≡ refusalCode number at ⌝ }
-{
-    number as u32 + 65536 * at as u32
-}
-
-// The refusal of a file, 0 where it is taken.
+// The refusal of a file, 0 where it is taken: its number in the low 16 bits, the record's number above.
 pub fn of_file(reader: Outcome) -> u32
     ensures { λ r. ⌜ r ≡ refusalCode (numberOf reader) (recordOf reader) ⌝ }
 {
-    refusal(reader.number() as u16, reader.record())
+    reader.number() as u32 + 65536 * reader.record() as u32
 }
 
 // The number of a comparison: 0 level, 1 first ahead, 2 second ahead, 3 clash.
@@ -60,48 +48,63 @@ pub fn kind(comparison: Comparison) -> u64
     }
 }
 
-// Ends a call: returns its refusal as one number, and puts the numbers to the front of the answer list where there is none.
-pub fn give(answer: &mut [u64], numbers: &[u64], number: u16, at: u16) -> u32
+// Ends a call: returns its refusal, and puts the numbers to the front of the answer list where there is none.
+pub fn give(answer: &mut [u64], numbers: &[u64], refusal: u8) -> u32
     requires { ⌜ length (now numbers) ≤ length (now answer) ⌝ }
-    ensures { λ r. ⌜ Given number at (now (numbers .entry)) (now (answer .entry)) (now (answer .exit)) r ⌝ }
+    ensures { λ r. ⌜ Given refusal (now (numbers .entry)) (now (answer .entry)) (now (answer .exit)) r ⌝ }
 {
-    if number != 0 {
-        return refusal(number, at);
+    if refusal != 0 {
+        return refusal as u32;
     }
     put_numbers(answer, numbers);
-    refusal(number, at)
+    0
 }
 
-// The same for the seven numbers of a judgement.
-pub fn give_judgement(answer: &mut [u64], judgement: Judgement) -> u32
+// The same for the seven numbers of a verdict.
+pub fn give_verdict(answer: &mut [u64], verdict: Verdict) -> u32
     requires { ⌜ verdictAnswer ≤ length (now answer) ⌝ }
-    ensures { λ r. ⌜ Given (judgement .number) (judgement .«record») (numbersOf judgement) (now (answer .entry)) (now (answer .exit)) r ⌝ }
+    ensures { λ r. ⌜ Given (decision.numberOf (verdict .outcome)) (numbersOf verdict) (now (answer .entry)) (now (answer .exit)) r ⌝ }
 {
-    let counts = judgement.counts;
+    let outcome = verdict.outcome;
+    let counts = verdict.counts;
     let numbers = [
-        judgement.split as u64,
-        judgement.useful as u64,
+        outcome.verdict() as u64,
+        verdict.useful as u64,
         counts.word as u64,
         counts.path_a as u64,
         counts.path_b as u64,
         counts.output_x as u64,
         counts.output_y as u64,
     ];
-    give(answer, &numbers, judgement.number, judgement.record)
+    give(answer, &numbers, outcome.number())
 }
 
-// The same for the byte count of a join of two files; a refusal of the second file is told by bit 31.
-pub fn give_join(answer: &mut [u64], join: FileJoin) -> u32
-    requires { ⌜ joinAnswer ≤ length (now answer) ⌝ }
-    requires { ⌜ join .«record» < recordsTold ⌝ }
-    ensures { λ r. ⌜ JoinEnded join (now (answer .entry)) (now (answer .exit)) r ⌝ }
+// Ends a call that shows which of several things have a property: a flag for each at the front of `flags`, or the refusal, that of a list with fewer
+// places last.
+pub fn give_flags(flags: &mut [u8], members: &[bool], refusal: u8) -> u32
+    ensures { λ r. ⌜ Flagged refusal (now (members .entry)) (now (flags .entry)) (now (flags .exit)) r ⌝ }
 {
-    let numbers = [join.length as u64];
-    let code = give(answer, &numbers, join.number, join.record);
-    if join.second {
-        return code + SECOND;
+    if refusal != 0 {
+        return refusal as u32;
     }
-    code
+    if flags.len() < members.len() {
+        return refusals::TOO_SHORT as u32;
+    }
+    put_flags(flags, members);
+    0
+}
+
+// Ends a call that makes a table: the table held at the front of `memory`, or the refusal.
+pub fn give_table(memory: &mut [u8], table: Transducer, refusal: u32) -> u32
+    requires { ⌜ Shaped table ⌝ }
+    requires { ⌜ heldSize ≤ length (now memory) ⌝ }
+    ensures { λ r. ⌜ HeldIn refusal table (now (memory .entry)) (now (memory .exit)) r ⌝ }
+{
+    if refusal != 0 {
+        return refusal;
+    }
+    held::hold(table, memory);
+    0
 }
 
 // Puts numbers to the front of a list.
@@ -116,20 +119,8 @@ pub fn put_numbers(list: &mut [u64], numbers: &[u64])
     }
 }
 
-// Ends a call that shows a set of states: a flag for each of limits::STATES states at the front of `flags`, or the refusal of a list that has fewer places.
-pub fn give_states(flags: &mut [u8], states: StateSet) -> u32
-    ensures { λ r. ⌜ StatesEnded states (now (flags .entry)) (now (flags .exit)) r ⌝ }
-{
-    if flags.len() < limits::STATES {
-        return refusals::TOO_SHORT as u32;
-    }
-    let member = states.member;
-    put_flags(flags, &member);
-    0
-}
-
 // Puts flags to the front of a list, 1 for true and 0 for false.
-pub fn put_flags(list: &mut [u8], flags: &[bool])
+fn put_flags(list: &mut [u8], flags: &[bool])
     requires { ⌜ length (now flags) ≤ length (now list) ⌝ }
     ensures { λ _. ⌜ now (list .exit) ≡ put (now (list .entry)) 0 (map flagOf (now (flags .entry))) ⌝ }
 {

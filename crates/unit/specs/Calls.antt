@@ -1,167 +1,170 @@
--- What each exported function returns and leaves. f, g, x, y, input, output and the buffers b are what is lent, a is the answer list; a name with a
--- prime is what that list holds afterwards.
+-- What each exported function returns and leaves. h, g and m are memories in which tables are held, f a file, x, y, input and output words, b the verdict's
+-- buffers, a the answer list; a name with a prime is what that list holds afterwards. Each record has the contract of the call on table values for
+-- `tableIn` of what is lent, and how its answer is put into the lists; a refusal, a number other than 0, leaves all of them.
 use mathlib.Core.Path.{_≡_}
-use mathlib.Core.Bool.{Bool, true, false, cond}
-use mathlib.Core.List.{List, [], _∷_, map}
-use mathlib.Core.Logic.{_≢_, _↔_}
-use Prim.Native.Nat.{ℕ, _≤_, _<_}
-use lib.ListN.{length, getD}
+use mathlib.Core.List.{List, [], _∷_}
+use Prim.Native.Nat.{ℕ, _≤_}
+use lib.ListN.{length}
 use Rattle.words.specs.Difference.{sharedOf, differenceOf}
-use Rattle.buffers.specs.Put.{put}
-use Rattle.transducer.specs.Limits.{mostStates}
-use Rattle.transducer.specs.Refusals.{tooShort, answerTooShort, firstOf}
-use Rattle.transducer.specs.Transition.{wordOf, outputWordOf}
-use Rattle.transducer.specs.Paths.{Relates}
-use Rattle.transducer.specs.Useful.{UsefulState, UsefulPair}
-use Rattle.tablewriter.specs.File.{writeOf}
-use Rattle.edits.specs.Edits.{Edit, editOf}
-use Rattle.product.specs.Numbers as pair
-use Rattle.product.specs.Numbers.{mostPairs}
-use Rattle.wordtest.specs.Words.{refusalOf}
+use Rattle.transducer.specs.Refusals.{answerTooShort}
+use Rattle.transducer.specs.declared.Transducer.{Transducer}
+use Rattle.records.specs.Letters.{mostFields}
+use Rattle.tablereader.specs.Transitions.{transitionOf}
+use Rattle.tablewriter.specs.Writing as file
+use Rattle.tablewriter.specs.Writing.{Wrote}
+use Rattle.tablewriter.specs.declared.Writing.{Writing}
+use Rattle.held.specs.Held.{heldSize, tableIn}
+use Rattle.useful.specs.UsefulStates as states
+use Rattle.useful.specs.UsefulStates.{UsefulStatesOf}
+use Rattle.useful.specs.declared.UsefulStates.{UsefulStates}
+use Rattle.pairs.specs.UsefulPairs as pairs
+use Rattle.pairs.specs.UsefulPairs.{UsefulPairsOf}
+use Rattle.pairs.specs.declared.UsefulPairs.{UsefulPairs}
+use Rattle.translator.specs.Numbers as answer
+use Rattle.translator.specs.Translated.{Translated}
+use Rattle.translator.specs.declared.Translation.{Translation}
+use Rattle.wordtest.specs.Numbers as test
+use Rattle.wordtest.specs.Tested.{Tested}
+use Rattle.wordtest.specs.declared.Acceptance.{Acceptance}
 use Rattle.witness.specs.Showing.{Buffers}
-use Rattle.functionality.specs.Decided.{fullOf, UsefulCount}
-use Rattle.engine.specs.Engine.{recordOf, tableOf, Judged, FileTranslated}
-use Rattle.engine.specs.declared.Judgement.{Judgement}
-use Rattle.engine.specs.declared.FileTranslation.{FileTranslation}
-use Rattle.joinfiles.specs.Joining.{FilesJoined}
-use Rattle.joinfiles.specs.declared.FileJoin.{FileJoin}
-use Rattle.editfiles.specs.Editing.{editNumber}
-use Rattle.answers.specs.Answers.{refusalCode, fileCode, joinCode, roomFault, flagOf, kindOf, numbersOf}
-use Rattle.answers.specs.Answers.{verdictAnswer, translateAnswer, acceptsAnswer, pairsAnswer, differenceAnswer, writeAnswer, joinAnswer, editAnswer}
+use Rattle.functionality.specs.Decided as decision
+use Rattle.functionality.specs.Decided.{Decided}
+use Rattle.functionality.specs.declared.Verdict.{Verdict}
+use Rattle.engine.specs.Engine.{tableOf}
+use Rattle.edits.specs.Edits as edit
+use Rattle.edits.specs.Edits.{Edit, EditedBy}
+use Rattle.edits.specs.declared.Edited.{Edited}
+use Rattle.series.specs.Join as join
+use Rattle.series.specs.Join.{JoinedOf}
+use Rattle.series.specs.declared.Joined.{Joined}
+use Rattle.answers.specs.Answers.{fileCode, flagOf, kindOf, numbersOf, Given, Flagged, HeldIn}
+use Rattle.answers.specs.Answers.{verdictAnswer, translateAnswer, acceptsAnswer, pairsAnswer, differenceAnswer, writeAnswer}
 
--- Each record says the same three things: what is returned, that a refusal (not 0) changes nothing that is lent, and what is done where 0 is
--- returned.
+-- the version of the calls, of their answers and of held tables: 1.0, the first number in the upper 16 bits
+abbrev pub version : ℕ
+version = 65536
+
+-- ---- lists of fixed size
+
+-- a call needs lists that are long enough before it can begin: where one is too short it returns 100 before anything else, and nothing that is lent changes;
+-- else it answers
+pub record Call (Long Unchanged : Type 0) (Answers : ℕ → Type 0) (r : ℕ) : Type 0 where
+  pub short : (Long → ⊥) → (r ≡ answerTooShort) × Unchanged
+  pub answers : Long → Answers r
+
+-- the memory has the places of a held table
+abbrev pub Holding : List ℕ → Type 0
+Holding h = heldSize ≤ length h
+
+-- and the answer list has n places
+abbrev pub Lent : ℕ → List ℕ → List ℕ → Type 0
+Lent n a h = (n ≤ length a) × Holding h
+
+-- ---- a file into memory, and out of it
+
+-- what `yotselina_read` returns and leaves: the file's table is held
+pub record ReadGiven (f h h′ : List ℕ) (r : ℕ) : Type 0 where
+  pub call : Call (Holding h) (h′ ≡ h) (HeldIn (fileCode f) (tableOf f) h h′) r
+
+-- the file of t is written, and its byte count answered
+pub record Writes (t : Transducer) (out out′ a a′ : List ℕ) (r : ℕ) : Type 0 where
+  pub writing : Writing
+  pub wrote : Wrote t out out′ writing
+  pub given : Given (file.numberOf writing) (file.lengthOf writing ∷ []) a a′ r
+
+-- what `yotselina_write` returns and leaves
+pub record WriteGiven (h out out′ a a′ : List ℕ) (r : ℕ) : Type 0 where
+  pub call : Call (Lent writeAnswer a h) ((out′ ≡ out) × (a′ ≡ a)) (Writes (tableIn h) out out′ a a′) r
 
 -- ---- the verdict
 
--- refused are, in this order, an answer list that is too short, the file, a buffer below its size
-unfoldable pub verdictCode : List ℕ → Buffers → List ℕ → ℕ
-verdictCode f b a = firstOf (roomFault verdictAnswer a answerTooShort ∷ fileCode f ∷ cond (fullOf b) 0 tooShort ∷ [])
-
--- the file is judged, and the seven numbers of the judgement stand at the front of the answer list
-pub record JudgementIn (f : List ℕ) (b b′ : Buffers) (a a′ : List ℕ) : Type 0 where
-  pub judgement : Judgement
-  pub judged : Judged f b b′ judgement
-  pub answer : a′ ≡ put a 0 (numbersOf judgement)
+-- the verdict on t, and its seven numbers
+pub record Decides (t : Transducer) (b b′ : Buffers) (a a′ : List ℕ) (r : ℕ) : Type 0 where
+  pub verdict : Verdict
+  pub decided : Decided t b b′ verdict
+  pub given : Given (decision.numberOf (verdict .outcome)) (numbersOf verdict) a a′ r
 
 -- what `yotselina_verdict` returns and leaves
-pub record VerdictGiven (f : List ℕ) (b b′ : Buffers) (a a′ : List ℕ) (r : ℕ) : Type 0 where
-  pub code : r ≡ verdictCode f b a
-  pub refused : r ≢ 0 → (b′ ≡ b) × (a′ ≡ a)
-  pub done : r ≡ 0 → JudgementIn f b b′ a a′
+pub record VerdictGiven (h : List ℕ) (b b′ : Buffers) (a a′ : List ℕ) (r : ℕ) : Type 0 where
+  pub call : Call (Lent verdictAnswer a h) ((b′ ≡ b) × (a′ ≡ a)) (Decides (tableIn h) b b′ a a′) r
 
--- ---- the translation
+-- ---- the translation and the word test
 
--- refused are, in this order, an answer list that is too short, what the translation by the file refuses
-unfoldable pub translateCode : FileTranslation → List ℕ → ℕ
-translateCode q a = firstOf (roomFault translateAnswer a answerTooShort ∷ refusalCode (q .number) (q .«record») ∷ [])
+-- the translation of a word by t, and the length of its output
+pub record Translates (t : Transducer) (input out out′ a a′ : List ℕ) (r : ℕ) : Type 0 where
+  pub translation : Translation
+  pub translated : Translated t input out out′ translation
+  pub given : Given (answer.numberOf translation) (answer.lengthOf translation ∷ []) a a′ r
 
--- what `yotselina_translate` returns and leaves: the length of the output stands at the front of the answer list
-pub record TranslationGiven (f input out out′ a a′ : List ℕ) (r : ℕ) : Type 0 where
-  pub translation : FileTranslation
-  pub translated : translateAnswer ≤ length a → FileTranslated f input out out′ translation
-  pub code : r ≡ translateCode translation a
-  pub refused : r ≢ 0 → (out′ ≡ out) × (a′ ≡ a)
-  pub done : r ≡ 0 → a′ ≡ put a 0 (translation .length ∷ [])
+-- what `yotselina_translate` returns and leaves
+pub record TranslationGiven (h input out out′ a a′ : List ℕ) (r : ℕ) : Type 0 where
+  pub call : Call (Lent translateAnswer a h) ((out′ ≡ out) × (a′ ≡ a)) (Translates (tableIn h) input out out′ a a′) r
 
--- ---- the word test
-
--- refused are, in this order, an answer list that is too short, the file, what the word test refuses
-unfoldable pub acceptsCode : List ℕ → List ℕ → List ℕ → List ℕ → ℕ
-acceptsCode f input output a = firstOf (roomFault acceptsAnswer a answerTooShort ∷ fileCode f ∷ refusalOf (tableOf f) input output ∷ [])
-
--- a flag stands at the front of the answer list: yes exactly when some accepting path reads the one word and writes the other
-pub record AnswerIn (f input output a a′ : List ℕ) : Type 0 where
-  pub yes : Bool
-  pub exactly : (yes ≡ true) ↔ Relates (tableOf f) (wordOf input) (outputWordOf output)
-  pub answer : a′ ≡ put a 0 (flagOf yes ∷ [])
+-- the test of two words by t, 1 for yes and 0 for no
+pub record Tests (t : Transducer) (input output a a′ : List ℕ) (r : ℕ) : Type 0 where
+  pub acceptance : Acceptance
+  pub tested : Tested t input output acceptance
+  pub given : Given (test.numberOf acceptance) (flagOf (test.saysYes acceptance) ∷ []) a a′ r
 
 -- what `yotselina_accepts` returns and leaves
-pub record AcceptsGiven (f input output a a′ : List ℕ) (r : ℕ) : Type 0 where
-  pub code : r ≡ acceptsCode f input output a
-  pub refused : r ≢ 0 → a′ ≡ a
-  pub done : r ≡ 0 → AnswerIn f input output a a′
+pub record AcceptsGiven (h input output a a′ : List ℕ) (r : ℕ) : Type 0 where
+  pub call : Call (Lent acceptsAnswer a h) (a′ ≡ a) (Tests (tableIn h) input output a a′) r
 
 -- ---- useful states and useful pairs
 
--- n flags stand at the front of the list: the flag at i is 1 where i has the property, else 0
-pub record Flagged (Property : ℕ → Type 0) (n : ℕ) (flags flags′ : List ℕ) : Type 0 where
-  pub members : List Bool
-  pub size : length members ≡ n
-  pub exactly : (i : ℕ) → i < n → (getD members i false ≡ true) ↔ Property i
-  pub list : flags′ ≡ put flags 0 (map flagOf members)
+-- a flag for each state: whether it is useful
+pub record FindsStates (t : Transducer) (flags flags′ : List ℕ) (r : ℕ) : Type 0 where
+  pub found : UsefulStates
+  pub useful : UsefulStatesOf t found
+  pub flagged : Flagged (states.numberOf (found .outcome)) (found .states .member) flags flags′ r
 
--- refused are, in this order, the file, fewer than mostStates places for the flags
-unfoldable pub statesCode : List ℕ → List ℕ → ℕ
-statesCode f flags = firstOf (fileCode f ∷ roomFault mostStates flags tooShort ∷ [])
+-- what `yotselina_useful_states` returns and leaves
+pub record StatesGiven (h flags flags′ : List ℕ) (r : ℕ) : Type 0 where
+  pub call : Call (Holding h) (flags′ ≡ flags) (FindsStates (tableIn h) flags flags′) r
 
--- what `yotselina_useful_states` returns and leaves: flag q says whether the state q is useful
-pub record StatesGiven (f flags flags′ : List ℕ) (r : ℕ) : Type 0 where
-  pub code : r ≡ statesCode f flags
-  pub refused : r ≢ 0 → flags′ ≡ flags
-  pub done : r ≡ 0 → Flagged (UsefulState (tableOf f)) mostStates flags flags′
+-- what `yotselina_look` returns and leaves: the flags of the set that is kept, as it stands; no table is refused
+pub record LookGiven (h flags flags′ : List ℕ) (r : ℕ) : Type 0 where
+  pub call : Call (Holding h) (flags′ ≡ flags) (Flagged 0 (tableIn h .useful .member) flags flags′) r
 
--- refused are, in this order, an answer list that is too short, the file, fewer than mostPairs places for the flags
-unfoldable pub pairsCode : List ℕ → List ℕ → List ℕ → ℕ
-pairsCode f flags a = firstOf (roomFault pairsAnswer a answerTooShort ∷ fileCode f ∷ roomFault mostPairs flags tooShort ∷ [])
-
--- the flag of the pair's number says whether the pair (p, q) is useful, and u stands at the front of the answer list
-pub record PairsIn (f flags flags′ a a′ : List ℕ) : Type 0 where
-  pub flagged : Flagged (λ i. UsefulPair (tableOf f) (pair.firstOf i) (pair.secondOf i)) mostPairs flags flags′
-  pub useful : ℕ
-  pub count : UsefulCount (tableOf f) useful
-  pub answer : a′ ≡ put a 0 (useful ∷ [])
+-- a flag for each pair of states, at the pair's number: whether it is useful; and how many are
+pub record FindsPairs (t : Transducer) (flags flags′ a a′ : List ℕ) (r : ℕ) : Type 0 where
+  pub found : UsefulPairs
+  pub useful : UsefulPairsOf t found
+  pub flagged : Flagged (pairs.numberOf (found .outcome)) (found .set .member) flags flags′ r
+  pub given : Given r (found .count ∷ []) a a′ r
 
 -- what `yotselina_useful_pairs` returns and leaves
-pub record PairsGiven (f flags flags′ a a′ : List ℕ) (r : ℕ) : Type 0 where
-  pub code : r ≡ pairsCode f flags a
-  pub refused : r ≢ 0 → (flags′ ≡ flags) × (a′ ≡ a)
-  pub done : r ≡ 0 → PairsIn f flags flags′ a a′
+pub record PairsGiven (h flags flags′ a a′ : List ℕ) (r : ℕ) : Type 0 where
+  pub call : Call (Lent pairsAnswer a h) ((flags′ ≡ flags) × (a′ ≡ a)) (FindsPairs (tableIn h) flags flags′ a a′) r
+
+-- ---- edits in place, and two tables in series
+
+-- the edit of t, whose result is held where t was
+pub record Edits (t : Transducer) (e : Edit) (h h′ : List ℕ) (r : ℕ) : Type 0 where
+  pub edited : Edited
+  pub by : EditedBy t e edited
+  pub held : HeldIn (edit.numberOf (edited .outcome)) (edited .table) h h′ r
+
+-- what `yotselina_append` returns and leaves: the line is handed over as its twelve numbers
+pub record AppendGiven (h line h′ : List ℕ) (r : ℕ) : Type 0 where
+  pub call : Call (Holding h × (mostFields ≤ length line)) (h′ ≡ h) (Edits (tableIn h) (Edit.append (transitionOf line)) h h′) r
+
+-- what `yotselina_remove` returns and leaves
+pub record RemoveGiven (h : List ℕ) (number : ℕ) (h′ : List ℕ) (r : ℕ) : Type 0 where
+  pub call : Call (Holding h) (h′ ≡ h) (Edits (tableIn h) (Edit.remove number) h h′) r
+
+-- the join of two tables, which is held in a third memory
+pub record Joins (first second : Transducer) (m m′ : List ℕ) (r : ℕ) : Type 0 where
+  pub joined : Joined
+  pub joins : JoinedOf first second joined
+  pub held : HeldIn (join.numberOf (joined .outcome)) (joined .table) m m′ r
+
+-- what `yotselina_join` returns and leaves
+pub record JoinGiven (h g m m′ : List ℕ) (r : ℕ) : Type 0 where
+  pub call : Call (Holding h × Holding g × Holding m) (m′ ≡ m) (Joins (tableIn h) (tableIn g) m m′) r
 
 -- ---- the difference of two words
 
--- what `yotselina_difference` returns and leaves: how the words compare, and how many codes they have in common at the beginning, stand at the front
--- of the answer list
+-- what `yotselina_difference` returns and leaves: how the words compare, and how many codes they have in common at the beginning
 pub record DifferenceGiven (x y a a′ : List ℕ) (r : ℕ) : Type 0 where
-  pub code : r ≡ roomFault differenceAnswer a answerTooShort
-  pub refused : r ≢ 0 → a′ ≡ a
-  pub done : r ≡ 0 → a′ ≡ put a 0 (kindOf (differenceOf x y) ∷ sharedOf x y ∷ [])
-
--- ---- the file, written again
-
--- refused are, in this order, an answer list that is too short, the file, fewer places than the file has bytes
-unfoldable pub writeCode : List ℕ → List ℕ → List ℕ → ℕ
-writeCode f out a = firstOf (roomFault writeAnswer a answerTooShort ∷ fileCode f ∷ roomFault (length f) out tooShort ∷ [])
-
--- what `yotselina_write` returns and leaves: the file's own bytes, and how many they are
-pub record FileGiven (f out out′ a a′ : List ℕ) (r : ℕ) : Type 0 where
-  pub code : r ≡ writeCode f out a
-  pub refused : r ≢ 0 → (out′ ≡ out) × (a′ ≡ a)
-  pub done : r ≡ 0 → (out′ ≡ put out 0 f) × (a′ ≡ put a 0 (length f ∷ []))
-
--- ---- two files in series
-
--- refused are, in this order, an answer list that is too short, what the join of the files refuses: the first file, the second, the join, the buffer
-unfoldable pub joinedCode : FileJoin → List ℕ → ℕ
-joinedCode j a = firstOf (roomFault joinAnswer a answerTooShort ∷ joinCode j ∷ [])
-
--- what `yotselina_join` returns and leaves: the byte count of the joined file stands at the front of the answer list
-pub record JoinGiven (f g out out′ a a′ : List ℕ) (r : ℕ) : Type 0 where
-  pub join : FileJoin
-  pub joins : joinAnswer ≤ length a → FilesJoined f g out out′ join
-  pub code : r ≡ joinedCode join a
-  pub refused : r ≢ 0 → (out′ ≡ out) × (a′ ≡ a)
-  pub done : r ≡ 0 → a′ ≡ put a 0 (join .length ∷ [])
-
--- ---- a file, edited by one line
-
--- refused are, in this order, an answer list that is too short, what the edit of the file refuses: the file, at a record, what is wrong with the line as it
--- is handed over, the edit of the file's lines, the buffer
-unfoldable pub editCode : List ℕ → ℕ → Edit → List ℕ → List ℕ → ℕ
-editCode f fault e out a = firstOf (roomFault editAnswer a answerTooShort ∷ refusalCode (editNumber f fault e out) (recordOf f) ∷ [])
-
--- what `yotselina_append` and `yotselina_remove` return and leave: the file of the edited table, and how many bytes it has
-pub record EditGiven (f : List ℕ) (fault : ℕ) (e : Edit) (out out′ a a′ : List ℕ) (r : ℕ) : Type 0 where
-  pub code : r ≡ editCode f fault e out a
-  pub refused : r ≢ 0 → (out′ ≡ out) × (a′ ≡ a)
-  pub done : r ≡ 0 → (out′ ≡ put out 0 (writeOf (editOf (tableOf f) e))) × (a′ ≡ put a 0 (length (writeOf (editOf (tableOf f) e)) ∷ []))
+  pub call : Call (differenceAnswer ≤ length a) (a′ ≡ a) (Given 0 (kindOf (differenceOf x y) ∷ sharedOf x y ∷ []) a a′) r

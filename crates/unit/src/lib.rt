@@ -1,21 +1,29 @@
-// The library that a unit links: the documents' calls for C, over lists and numbers only. Each returns 0, or a refusal as one number (`refusalCode`
-// of the crate `answers`, in a join of two files `joinCode`); a refusal changes no list. Where the answer is several numbers they go to the front of
-// the list `answer`, whose length is looked at before anything else. The contracts cite specs/Calls.antt; specs/Laws.antt says what they determine.
+// The library that a unit links: the documents' calls for C, over lists and numbers only. A table is lent as memory in which it is held (crate `held`).
+// Each call returns 0, or its refusal; a refusal changes no list. A list of fixed size that is too short is refused before anything else. The contracts
+// cite specs/Calls.antt; specs/Laws.antt says what they determine.
 ghost use mathlib.Core.Path.{_≡_};
 ghost use Rattle.witness.specs.Showing.{buffersOf};
-ghost use Rattle.tablereader.specs.Transitions.{transitionOf};
-ghost use Rattle.edits.specs.Edits.{Edit};
-ghost use Rattle.editfiles.specs.Editing.{lineFault};
 ghost use Rattle.answers.specs.Answers.{fileCode};
-ghost use Rattle.unit.specs.Calls.{VerdictGiven, TranslationGiven, AcceptsGiven, StatesGiven, PairsGiven, DifferenceGiven};
-ghost use Rattle.unit.specs.Calls.{FileGiven, JoinGiven, EditGiven};
-use product::steps::PAIRS;
+ghost use Rattle.unit.specs.Calls as calls;
+ghost use Rattle.unit.specs.Calls.{ReadGiven, WriteGiven, VerdictGiven, TranslationGiven, AcceptsGiven, StatesGiven, LookGiven, PairsGiven};
+ghost use Rattle.unit.specs.Calls.{AppendGiven, RemoveGiven, JoinGiven, DifferenceGiven};
+use held::SIZE;
+use records::reading::MOST_FIELDS;
 use transducer::refusals;
 
-// The refusals of a list that is too short, as the exported functions return them.
-const ANSWER_TOO_SHORT: u32 = refusals::ANSWER_TOO_SHORT as u32;
+// The refusal of a list that is shorter than the call needs before it can begin.
+const LIST_TOO_SHORT: u32 = refusals::ANSWER_TOO_SHORT as u32;
 
-const TOO_SHORT: u32 = refusals::TOO_SHORT as u32;
+// The version of the calls, of their answers and of held tables: 1.0.
+const VERSION: u32 = 65536;
+
+// The version; a header of another does not fit this library.
+#[no_mangle]
+pub extern "C" fn yotselina_version() -> u32
+    ensures { λ r. ⌜ r ≡ calls.version ⌝ }
+{
+    VERSION
+}
 
 // Reads a table file, and returns its refusal, or 0 where it is taken.
 #[no_mangle]
@@ -27,11 +35,41 @@ pub extern "C" fn yotselina_check(file: &[u8]) -> u32
     answers::of_file(outcome)
 }
 
-// Tests whether the transducer of a table file is functional. A witness that it is not is put into the five buffers; the answer is the seven numbers
-// of the judgement.
+// Reads a table file; its table is held in `table`.
+#[no_mangle]
+pub extern "C" fn yotselina_read(file: &[u8], table: &mut [u8]) -> u32
+    ensures { λ r. ⌜ ReadGiven (now (file .entry)) (now (table .entry)) (now (table .exit)) r ⌝ }
+{
+    if table.len() < SIZE {
+        return LIST_TOO_SHORT;
+    }
+    let reading = tablereader::read(file);
+    let outcome = reading.outcome;
+    let t = reading.table;
+    answers::give_table(table, t, answers::of_file(outcome))
+}
+
+// Writes the file of a held table to the front of `out`; the answer is its byte count.
+#[no_mangle]
+pub extern "C" fn yotselina_write(table: &[u8], out: &mut [u8], answer: &mut [u64]) -> u32
+    ensures { λ r. ⌜ WriteGiven (now (table .entry)) (now (out .entry)) (now (out .exit)) (now (answer .entry)) (now (answer .exit)) r ⌝ }
+{
+    if answer.len() < answers::WRITE {
+        return LIST_TOO_SHORT;
+    }
+    if table.len() < SIZE {
+        return LIST_TOO_SHORT;
+    }
+    let t = held::table_in(table);
+    let writing = tablewriter::write(t, out);
+    let numbers = [writing.length() as u64];
+    answers::give(answer, &numbers, writing.number())
+}
+
+// Tests whether a held table is functional. A witness that it is not is put into the five buffers; the answer is the seven numbers of the verdict.
 #[no_mangle]
 pub extern "C" fn yotselina_verdict(
-    file: &[u8],
+    table: &[u8],
     word: &mut [u8],
     path_a: &mut [u16],
     path_b: &mut [u16],
@@ -40,7 +78,7 @@ pub extern "C" fn yotselina_verdict(
     answer: &mut [u64],
 ) -> u32
     ensures { λ r. ⌜
-        VerdictGiven (now (file .entry))
+        VerdictGiven (now (table .entry))
         (buffersOf (now (word .entry)) (now («path_a» .entry)) (now («path_b» .entry)) (now («output_x» .entry)) (now («output_y» .entry)))
         (buffersOf (now (word .exit)) (now («path_a» .exit)) (now («path_b» .exit)) (now («output_x» .exit)) (now («output_y» .exit)))
         (now (answer .entry)) (now (answer .exit))
@@ -48,122 +86,174 @@ pub extern "C" fn yotselina_verdict(
         ⌝ }
 {
     if answer.len() < answers::VERDICT {
-        return ANSWER_TOO_SHORT;
+        return LIST_TOO_SHORT;
     }
-    let judgement = engine::judge(file, word, path_a, path_b, output_x, output_y);
-    answers::give_judgement(answer, judgement)
+    if table.len() < SIZE {
+        return LIST_TOO_SHORT;
+    }
+    let t = held::table_in(table);
+    let verdict = functionality::decide(t, word, path_a, path_b, output_x, output_y);
+    answers::give_verdict(answer, verdict)
 }
 
-// Writes the output of the word `input` by a table file to the front of `output`; the answer is its length.
+// Writes the output of the word `input` by a held table to the front of `output`; the answer is its length.
 #[no_mangle]
 pub extern "C" fn yotselina_translate(
-    file: &[u8],
+    table: &[u8],
     input: &[u8],
     output: &mut [u8],
     answer: &mut [u64],
 ) -> u32
     ensures { λ r. ⌜
-        TranslationGiven (now (file .entry)) (now (input .entry))
+        TranslationGiven (now (table .entry)) (now (input .entry))
         (now (output .entry)) (now (output .exit)) (now (answer .entry)) (now (answer .exit))
         r
         ⌝ }
 {
     if answer.len() < answers::TRANSLATE {
-        return ANSWER_TOO_SHORT;
+        return LIST_TOO_SHORT;
     }
-    let translation = engine::translate_file(file, input, output);
-    let numbers = [translation.length as u64];
-    answers::give(answer, &numbers, translation.number, translation.record)
+    if table.len() < SIZE {
+        return LIST_TOO_SHORT;
+    }
+    let t = held::table_in(table);
+    let translation = translator::translate(t, input, output);
+    let numbers = [translation.length() as u64];
+    answers::give(answer, &numbers, translation.number())
 }
 
-// Whether some accepting path of the transducer of a table file reads the word `input` and writes the word `output`; the answer is 1 for yes, 0 for
-// no.
+// Whether some accepting path of a held table reads the word `input` and writes the word `output`; the answer is 1 for yes, 0 for no.
 #[no_mangle]
 pub extern "C" fn yotselina_accepts(
-    file: &[u8],
+    table: &[u8],
     input: &[u8],
     output: &[u8],
     answer: &mut [u64],
 ) -> u32
     ensures { λ r. ⌜
-        AcceptsGiven (now (file .entry)) (now (input .entry)) (now (output .entry)) (now (answer .entry)) (now (answer .exit)) r
+        AcceptsGiven (now (table .entry)) (now (input .entry)) (now (output .entry)) (now (answer .entry)) (now (answer .exit)) r
         ⌝ }
 {
     if answer.len() < answers::ACCEPTS {
-        return ANSWER_TOO_SHORT;
+        return LIST_TOO_SHORT;
     }
-    let reading = tablereader::read(file);
-    let outcome = reading.outcome;
-    let refused = answers::of_file(outcome);
-    if refused != 0 {
-        return refused;
+    if table.len() < SIZE {
+        return LIST_TOO_SHORT;
     }
-    let table = reading.table;
-    let acceptance = wordtest::accepts(table, input, output);
+    let t = held::table_in(table);
+    let acceptance = wordtest::accepts(t, input, output);
     let numbers = [acceptance.yes() as u64];
-    answers::give(answer, &numbers, acceptance.number() as u16, 0)
+    answers::give(answer, &numbers, acceptance.number())
 }
 
 // Puts a flag for each of transducer::limits::STATES states to the front of `flags`: whether it is useful.
 #[no_mangle]
-pub extern "C" fn yotselina_useful_states(file: &[u8], flags: &mut [u8]) -> u32
-    ensures { λ r. ⌜ StatesGiven (now (file .entry)) (now (flags .entry)) (now (flags .exit)) r ⌝ }
+pub extern "C" fn yotselina_useful_states(table: &[u8], flags: &mut [u8]) -> u32
+    ensures { λ r. ⌜ StatesGiven (now (table .entry)) (now (flags .entry)) (now (flags .exit)) r ⌝ }
 {
-    let reading = tablereader::read(file);
-    let outcome = reading.outcome;
-    let refused = answers::of_file(outcome);
-    if refused != 0 {
-        return refused;
+    if table.len() < SIZE {
+        return LIST_TOO_SHORT;
     }
-    let table = reading.table;
-    let found = useful::useful_states(table);
+    let t = held::table_in(table);
+    let found = useful::useful_states(t);
+    let outcome = found.outcome;
     let states = found.states;
-    answers::give_states(flags, states)
+    let members = states.member;
+    answers::give_flags(flags, &members, outcome.number())
 }
 
-// The panel's look: the same flags, from the set that the table keeps, which is not worked out again.
+// The panel's look: the flags that are kept. Nothing else of the memory is looked at: nothing is checked, and nothing is worked out.
 #[no_mangle]
-pub extern "C" fn yotselina_look(file: &[u8], flags: &mut [u8]) -> u32
-    ensures { λ r. ⌜ StatesGiven (now (file .entry)) (now (flags .entry)) (now (flags .exit)) r ⌝ }
+pub extern "C" fn yotselina_look(table: &[u8], flags: &mut [u8]) -> u32
+    ensures { λ r. ⌜ LookGiven (now (table .entry)) (now (flags .entry)) (now (flags .exit)) r ⌝ }
 {
-    let reading = tablereader::read(file);
-    let outcome = reading.outcome;
-    let refusal = answers::of_file(outcome);
-    if refusal != 0 {
-        return refusal;
+    if table.len() < SIZE {
+        return LIST_TOO_SHORT;
     }
-    let table = reading.table;
-    let states = panel::look(table);
-    answers::give_states(flags, states)
+    let states = held::set_at(table, held::USEFUL_AT);
+    let members = states.member;
+    answers::give_flags(flags, &members, 0)
 }
 
-// Puts a flag for each of PAIRS pairs of states to the front of `flags`: whether it is useful; the answer is u.
+// Puts a flag for each pair of states to the front of `flags`, at the pair's number: whether it is useful; the answer is u, how many are.
 #[no_mangle]
-pub extern "C" fn yotselina_useful_pairs(file: &[u8], flags: &mut [u8], answer: &mut [u64]) -> u32
+pub extern "C" fn yotselina_useful_pairs(table: &[u8], flags: &mut [u8], answer: &mut [u64]) -> u32
     ensures { λ r. ⌜
-        PairsGiven (now (file .entry)) (now (flags .entry)) (now (flags .exit)) (now (answer .entry)) (now (answer .exit)) r
+        PairsGiven (now (table .entry)) (now (flags .entry)) (now (flags .exit)) (now (answer .entry)) (now (answer .exit)) r
         ⌝ }
 {
     if answer.len() < answers::PAIRS {
-        return ANSWER_TOO_SHORT;
+        return LIST_TOO_SHORT;
     }
-    let reading = tablereader::read(file);
-    let outcome = reading.outcome;
-    let refused = answers::of_file(outcome);
-    if refused != 0 {
-        return refused;
+    if table.len() < SIZE {
+        return LIST_TOO_SHORT;
     }
-    if flags.len() < PAIRS {
-        return TOO_SHORT;
-    }
-    let table = reading.table;
-    let found = pairs::useful_pairs(table);
+    let t = held::table_in(table);
+    let found = pairs::useful_pairs(t);
+    let outcome = found.outcome;
     let set = found.set;
-    let member = set.member;
-    answers::put_flags(flags, &member);
+    let members = set.member;
+    let refusal = answers::give_flags(flags, &members, outcome.number());
+    if refusal != 0 {
+        return refusal;
+    }
     let numbers = [found.count as u64];
-    answers::put_numbers(answer, &numbers);
-    0
+    answers::give(answer, &numbers, 0)
+}
+
+// Appends the line whose numbers are `line` to a held table, behind its last, in place.
+#[no_mangle]
+pub extern "C" fn yotselina_append(table: &mut [u8], line: &[u8]) -> u32
+    ensures { λ r. ⌜ AppendGiven (now (table .entry)) (now (line .entry)) (now (table .exit)) r ⌝ }
+{
+    if table.len() < SIZE {
+        return LIST_TOO_SHORT;
+    }
+    if line.len() < MOST_FIELDS {
+        return LIST_TOO_SHORT;
+    }
+    let t = held::table_in(table);
+    let edited = edits::append(t, held::line_in(line));
+    let outcome = edited.outcome;
+    let made = edited.table;
+    answers::give_table(table, made, outcome.number() as u32)
+}
+
+// Removes the line number `number` of a held table, in place: those after it move down one.
+#[no_mangle]
+pub extern "C" fn yotselina_remove(table: &mut [u8], number: usize) -> u32
+    ensures { λ r. ⌜ RemoveGiven (now (table .entry)) number (now (table .exit)) r ⌝ }
+{
+    if table.len() < SIZE {
+        return LIST_TOO_SHORT;
+    }
+    let t = held::table_in(table);
+    let edited = edits::remove(t, number);
+    let outcome = edited.outcome;
+    let made = edited.table;
+    answers::give_table(table, made, outcome.number() as u32)
+}
+
+// Joins two held tables in series; the joined table is held in `result`.
+#[no_mangle]
+pub extern "C" fn yotselina_join(first: &[u8], second: &[u8], result: &mut [u8]) -> u32
+    ensures { λ r. ⌜ JoinGiven (now (first .entry)) (now (second .entry)) (now (result .entry)) (now (result .exit)) r ⌝ }
+{
+    if first.len() < SIZE {
+        return LIST_TOO_SHORT;
+    }
+    if second.len() < SIZE {
+        return LIST_TOO_SHORT;
+    }
+    if result.len() < SIZE {
+        return LIST_TOO_SHORT;
+    }
+    let t = held::table_in(first);
+    let other = held::table_in(second);
+    let joined = series::join(t, other);
+    let outcome = joined.outcome;
+    let made = joined.table;
+    answers::give_table(result, made, outcome.number() as u32)
 }
 
 // The difference of two lists of output codes: the answer is how they compare, and how many codes they have in common at the beginning.
@@ -172,94 +262,9 @@ pub extern "C" fn yotselina_difference(x: &[u8], y: &[u8], answer: &mut [u64]) -
     ensures { λ r. ⌜ DifferenceGiven (now (x .entry)) (now (y .entry)) (now (answer .entry)) (now (answer .exit)) r ⌝ }
 {
     if answer.len() < answers::DIFFERENCE {
-        return ANSWER_TOO_SHORT;
+        return LIST_TOO_SHORT;
     }
     let kind = answers::kind(words::difference(x, y));
     let numbers = [kind, words::shared(x, y) as u64];
-    answers::put_numbers(answer, &numbers);
-    0
-}
-
-// Reads a table file and writes its transducer as a file to the front of `out`; the answer is the byte count.
-#[no_mangle]
-pub extern "C" fn yotselina_write(file: &[u8], out: &mut [u8], answer: &mut [u64]) -> u32
-    ensures { λ r. ⌜ FileGiven (now (file .entry)) (now (out .entry)) (now (out .exit)) (now (answer .entry)) (now (answer .exit)) r ⌝ }
-{
-    if answer.len() < answers::WRITE {
-        return ANSWER_TOO_SHORT;
-    }
-    let reading = tablereader::read(file);
-    let outcome = reading.outcome;
-    let refused = answers::of_file(outcome);
-    if refused != 0 {
-        return refused;
-    }
-    let table = reading.table;
-    let writing = tablewriter::write(table, out);
-    let numbers = [writing.length() as u64];
-    answers::give(answer, &numbers, writing.number() as u16, 0)
-}
-
-// Reads two table files and writes the file of their tables in series to the front of `out`; the answer is the byte count. A refusal of the second
-// file has bit 31 set.
-#[no_mangle]
-pub extern "C" fn yotselina_join(
-    first: &[u8],
-    second: &[u8],
-    out: &mut [u8],
-    answer: &mut [u64],
-) -> u32
-    ensures { λ r. ⌜
-        JoinGiven (now (first .entry)) (now (second .entry)) (now (out .entry)) (now (out .exit)) (now (answer .entry)) (now (answer .exit)) r
-        ⌝ }
-{
-    if answer.len() < answers::JOIN {
-        return ANSWER_TOO_SHORT;
-    }
-    let join = joinfiles::join_files(first, second, out);
-    answers::give_join(answer, join)
-}
-
-// Reads a table file and writes the file with the line whose numbers are `line` behind its last to the front of `out`; the answer is the byte count.
-#[no_mangle]
-pub extern "C" fn yotselina_append(
-    file: &[u8],
-    line: &[u8],
-    out: &mut [u8],
-    answer: &mut [u64],
-) -> u32
-    ensures { λ r. ⌜
-        EditGiven (now (file .entry)) (lineFault (now (line .entry))) (Edit.append (transitionOf (now (line .entry))))
-        (now (out .entry)) (now (out .exit)) (now (answer .entry)) (now (answer .exit))
-        r
-        ⌝ }
-{
-    if answer.len() < answers::EDIT {
-        return ANSWER_TOO_SHORT;
-    }
-    let appended = editfiles::append(file, line, out);
-    let numbers = [appended.length as u64];
-    answers::give(answer, &numbers, appended.number, appended.record)
-}
-
-// Reads a table file and writes the file without its line number `number` to the front of `out`; the answer is the byte count.
-#[no_mangle]
-pub extern "C" fn yotselina_remove(
-    file: &[u8],
-    number: usize,
-    out: &mut [u8],
-    answer: &mut [u64],
-) -> u32
-    ensures { λ r. ⌜
-        EditGiven (now (file .entry)) 0 (Edit.remove number)
-        (now (out .entry)) (now (out .exit)) (now (answer .entry)) (now (answer .exit))
-        r
-        ⌝ }
-{
-    if answer.len() < answers::EDIT {
-        return ANSWER_TOO_SHORT;
-    }
-    let removed = editfiles::remove(file, number, out);
-    let numbers = [removed.length as u64];
-    answers::give(answer, &numbers, removed.number, removed.record)
+    answers::give(answer, &numbers, 0)
 }

@@ -1,6 +1,6 @@
--- `yotselina_check` meets its contract. Assumes nothing.
+-- `yotselina_check` meets its contract: what it returns is the reader's refusal. Assumes nothing.
 use borrow.Author.Needs.{needs}
-use Rattle.unit.proofs.Codes.{code-read}
+use Rattle.unit.proofs.Returns.{code-read}
 use Rattle.unit.proofs.yotselina_check.Statement.{statement}
 use Rattle.unit.proofs.yotselina_check.Tie as tie
 

@@ -1,36 +1,32 @@
--- `yotselina_look` meets its contract: the file decides first, then the places for the flags. Assumes nothing.
-use mathlib.Core.Path.{_≡_, sym, _∙_}
+-- `yotselina_look` meets its contract: the memory decides first, then the places for the flags. Assumes nothing.
+use mathlib.Core.Path.{refl}
+use native.Mathlib.Omega.{arith}
 use borrow.Author.Needs.{needs}
-use Rattle.answers.specs.Answers.{fileCode}
-use Rattle.unit.proofs.Codes.{code-read}
-use Rattle.unit.proofs.UsefulCalls.{states-refused, states-kept}
+use Rattle.unit.proofs.Returns.{too-short, look-given}
 use Rattle.unit.proofs.yotselina_look.Statement.{statement}
 use Rattle.unit.proofs.yotselina_look.Tie as tie
 
--- past its first test the file is taken
-taken : (c : tie.Else1) → fileCode (c .before .before .before .before .before .args .file .now) ≡ 0
-taken c = sym (code-read _ (c .before .before .read .ensures) (c .before .of-file .ensures)) ∙ c .if1 .left
+abbrev flagged : tie.After-slice-known2 → tie.After-give-flags
+flagged c = c .before .before
+
+abbrev set : tie.After-give-flags → tie.After-set-at
+set c = c .before .before .before .before
 
 returns : tie.Need-returns
-returns c = states-refused (code-read _ (c .before .before .read .ensures) (c .before .of-file .ensures)) (c .if1 .taken)
-
-abbrev looked : tie.After-give-states → tie.After-look
-looked c = c .before .before
+returns c = record { call = too-short (λ long. omega (arith, long, c .if1 .taken)) refl }
 
 returns-2 : tie.Need-returns-2
 returns-2 c =
-    let ended = c .before .before in
-    let past = looked ended .before .before in
-    states-kept (taken past) (past .before .before .read .ensures) (looked ended .look .ensures) (ended .give-states .ensures)
+    let kept = set (flagged c) in
+    look-given (kept .before .if1 .left) (kept .set-at .ensures) (flagged c .give-flags .ensures)
 
 pub yotselina-look-spec : {M : Type 1} → statement M
 yotselina-look-spec =
     tie.close
     (tie.spec
-    (λ c κs. search needs)
-    (λ c κs. search needs)
     returns
     (λ c κs. search needs)
+    (λ c. search needs)
     (λ c κs. search needs)
     (λ c. search needs)
     returns-2)

@@ -1,22 +1,29 @@
--- `yotselina_remove` meets its contract: the answer list decides first, then what the edit of the file answers. Assumes nothing.
+-- `yotselina_remove` meets its contract: the memory decides first, then the edit. Assumes nothing.
+use mathlib.Core.Path.{refl}
+use native.Mathlib.Omega.{arith}
 use borrow.Author.Needs.{needs}
-use Rattle.unit.proofs.EditCalls.{edit-short, edit-answered}
+use Rattle.unit.proofs.Returns.{too-short, remove-given}
 use Rattle.unit.proofs.yotselina_remove.Statement.{statement}
 use Rattle.unit.proofs.yotselina_remove.Tie as tie
 
-abbrev edited : tie.After-slice-known4 → tie.After-remove
-edited c = c .before .before .before .before .before .before .before
+abbrev made : tie.After-slice-known2 → tie.After-give-table
+made c = c .before .before
 
-abbrev entered : tie.After-remove → tie.Else1
-entered c = c .before .before
+abbrev edited : tie.After-number → tie.After-remove
+edited c = c .before .before .before
+
+abbrev room : tie.After-table-in → tie.Else1
+room c = c .before .before
 
 returns : tie.Need-returns
-returns c = edit-short (c .if1 .taken)
+returns c = record { call = too-short (λ long. omega (arith, long, c .if1 .taken)) refl }
 
 returns-2 : tie.Need-returns-2
 returns-2 c =
-    let at = edited c in
-    edit-answered (entered at .if1 .left) (at .remove .ensures) (c .before .before .give .ensures)
+    let number = made c .before in
+    let edit = edited number in
+    let held = edit .before in
+    remove-given (room held .if1 .left) (held .table-in .ensures) (edit .remove .ensures) (number .number .ensures) (made c .give-table .ensures)
 
 pub yotselina-remove-spec : {M : Type 1} → statement M
 yotselina-remove-spec =
@@ -24,8 +31,9 @@ yotselina-remove-spec =
     (tie.spec
     returns
     (λ c κs. search needs)
-    (λ c. search needs)
+    (λ c κs. search needs)
     (λ c κs. search needs)
     (λ c. search needs)
+    (λ c κs. search needs)
     (λ c. search needs)
     returns-2)

@@ -1,35 +1,36 @@
--- `yotselina_useful_states` meets its contract: the file decides first, then the places for the flags. Assumes nothing.
-use mathlib.Core.Path.{_≡_, sym, _∙_}
+-- `yotselina_useful_states` meets its contract: the memory decides first, then what `useful_states` answers. Assumes nothing.
+use mathlib.Core.Path.{refl}
+use native.Mathlib.Omega.{arith}
 use borrow.Author.Needs.{needs}
-use Rattle.answers.specs.Answers.{fileCode}
-use Rattle.unit.proofs.Codes.{code-read}
-use Rattle.unit.proofs.UsefulCalls.{states-refused, states-found}
+use Rattle.unit.proofs.Returns.{too-short, states-given}
 use Rattle.unit.proofs.yotselina_useful_states.Statement.{statement}
 use Rattle.unit.proofs.yotselina_useful_states.Tie as tie
 
--- past its first test the file is taken
-taken : (c : tie.Else1) → fileCode (c .before .before .before .before .before .args .file .now) ≡ 0
-taken c = sym (code-read _ (c .before .before .read .ensures) (c .before .of-file .ensures)) ∙ c .if1 .left
+abbrev flagged : tie.After-slice-known2 → tie.After-give-flags
+flagged c = c .before .before
+
+abbrev found : tie.After-number → tie.After-useful-states
+found c = c .before .before .before .before .before
 
 returns : tie.Need-returns
-returns c = states-refused (code-read _ (c .before .before .read .ensures) (c .before .of-file .ensures)) (c .if1 .taken)
-
-abbrev found : tie.After-give-states → tie.After-useful-states
-found c = c .before .before .before
+returns c = record { call = too-short (λ long. omega (arith, long, c .if1 .taken)) refl }
 
 returns-2 : tie.Need-returns-2
 returns-2 c =
-    let ended = c .before .before in
-    let past = found ended .before .before in
-    states-found (taken past) (past .before .before .read .ensures) (found ended .useful-states .ensures) (ended .give-states .ensures)
+    let number = flagged c .before in
+    let answer = found number in
+    let held = answer .before in
+    states-given (held .before .if1 .left) (held .table-in .ensures) (answer .useful-states .ensures) (number .number .ensures)
+    (flagged c .give-flags .ensures)
 
 pub yotselina-useful-states-spec : {M : Type 1} → statement M
 yotselina-useful-states-spec =
     tie.close
     (tie.spec
-    (λ c κs. search needs)
-    (λ c κs. search needs)
     returns
+    (λ c κs. search needs)
+    (λ c κs. search needs)
+    (λ c. search needs)
     (λ c κs. search needs)
     (λ c κs. search needs)
     (λ c. search needs)

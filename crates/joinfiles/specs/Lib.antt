@@ -1,3 +1,0 @@
--- What `join_files` answers and leaves, and what holds of the file that it writes.
-pub mod Joining
-pub mod Series
