@@ -1,2 +1,3 @@
 -- What the contracts of the exported functions cite, and what holds of any results that meet them.
 pub mod Calls
+pub mod Laws
