@@ -4,3 +4,5 @@ mod CallLaws
 mod ReturnLaws
 mod Determined
 mod HeldCalls
+mod WordCalls
+pub mod Boundary
