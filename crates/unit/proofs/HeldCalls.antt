@@ -132,7 +132,7 @@ module _ {h h′ : List ℕ} {e : Edit} {r : ℕ} (long : Holding h) (g : Edits 
   edit-behind : drop heldSize h′ ≡ drop heldSize h
   edit-behind = either r (λ z. rw (g .held .held z) (put-behind (g .edited .table) h (g .by .shaped))) (λ n. ap (drop heldSize) (g .held .refused n))
 
-  edit-holding : Holding h′
+  pub edit-holding : Holding h′
   edit-holding = either r (λ z. rw (g .held .held z) (put-holding (g .edited .table) h (g .by .shaped) long)) (λ n. rw (g .held .refused n) long)
 
 -- any number of them
@@ -203,7 +203,7 @@ joined-file {f₁} {f₂} {m′ = m′} {out} {out′} {a} {a′} one other k w 
 
 -- ---- tables that calls made
 
-edited-accepted : {g h : List ℕ} {e : Edit} {r : ℕ} → acceptedOf (tableIn g) ≡ true → Holding g → Edits (tableIn g) e g h r
+pub edited-accepted : {g h : List ℕ} {e : Edit} {r : ℕ} → acceptedOf (tableIn g) ≡ true → Holding g → Edits (tableIn g) e g h r
     → acceptedOf (tableIn h) ≡ true
 edited-accepted accepted long k = rw (edit-table long k) (one-accepted accepted (k .by))
 

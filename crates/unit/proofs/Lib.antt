@@ -2,7 +2,9 @@
 mod Returns
 mod CallLaws
 mod ReturnLaws
+mod Leaves
 mod Determined
 mod HeldCalls
+mod There
 mod WordCalls
 pub mod Boundary

@@ -3,7 +3,7 @@
 -- documents 01 and 02 say of the verdict, the word test, joins, edits and looks. `boundary` of proofs/Boundary.antt proves it.
 use mathlib.Core.Path.{_≡_}
 use mathlib.Core.Bool.{true, false, _&&_}
-use mathlib.Core.List.{List, [], _∷_}
+use mathlib.Core.List.{List, [], _∷_, List·Memᴰ}
 use mathlib.Core.Logic.{_≢_, _↔_}
 use Prim.Native.Nat.{ℕ, _≤_, _<_, _/_, _%_}
 use lib.ListN.{length, getD, take, drop}
@@ -15,8 +15,8 @@ use Rattle.transducer.specs.Accepted.{acceptedOf}
 use Rattle.transducer.specs.Alike.{Alike}
 use Rattle.transducer.specs.declared.Transducer.{Transducer}
 use Rattle.tablereader.specs.Transitions.{transitionOf}
-use Rattle.held.specs.Held.{heldSize, tableIn}
-use Rattle.edits.specs.Edits.{Edit}
+use Rattle.held.specs.Held.{heldSize, heldOf, tableIn}
+use Rattle.edits.specs.Edits.{Edit, Whole}
 use Rattle.edits.specs.Rows.{InARow}
 use Rattle.series.specs.Composition.{InSeries}
 use Rattle.series.specs.Join.{JoinedOf}
@@ -122,6 +122,21 @@ pub record Returned : Type 0 where
       → (r ≡ invalid) ↔ ((acceptedOf (tableIn h) && acceptedOf (tableIn g)) ≡ false)
   pub look-not-8 : {h flags flags′ : List ℕ} {r : ℕ} → LookGiven h flags flags′ r → r ≢ invalid
 
+-- a refusal leaves all that is lent (demand 1)
+pub record RefusalLeaves : Type 0 where
+  pub read : {f h h′ : List ℕ} {r : ℕ} → ReadGiven f h h′ r → r ≢ 0 → h′ ≡ h
+  pub write : {h out out′ a a′ : List ℕ} {r : ℕ} → WriteGiven h out out′ a a′ r → r ≢ 0 → (out′ ≡ out) × (a′ ≡ a)
+  pub verdict : {h a a′ : List ℕ} {b b′ : Buffers} {r : ℕ} → VerdictGiven h b b′ a a′ r → r ≢ 0 → (b′ ≡ b) × (a′ ≡ a)
+  pub translation : {h input out out′ a a′ : List ℕ} {r : ℕ} → TranslationGiven h input out out′ a a′ r → r ≢ 0 → (out′ ≡ out) × (a′ ≡ a)
+  pub accepts : {h input output a a′ : List ℕ} {r : ℕ} → AcceptsGiven h input output a a′ r → r ≢ 0 → a′ ≡ a
+  pub states : {h flags flags′ : List ℕ} {r : ℕ} → StatesGiven h flags flags′ r → r ≢ 0 → flags′ ≡ flags
+  pub look : {h flags flags′ : List ℕ} {r : ℕ} → LookGiven h flags flags′ r → r ≢ 0 → flags′ ≡ flags
+  pub pairs : {h flags flags′ a a′ : List ℕ} {r : ℕ} → PairsGiven h flags flags′ a a′ r → r ≢ 0 → (flags′ ≡ flags) × (a′ ≡ a)
+  pub append : {h line h′ : List ℕ} {r : ℕ} → AppendGiven h line h′ r → r ≢ 0 → h′ ≡ h
+  pub remove : {h h′ : List ℕ} {l r : ℕ} → RemoveGiven h l h′ r → r ≢ 0 → h′ ≡ h
+  pub join : {h g m m′ : List ℕ} {r : ℕ} → JoinGiven h g m m′ r → r ≢ 0 → m′ ≡ m
+  pub difference : {x y a a′ : List ℕ} {r : ℕ} → DifferenceGiven x y a a′ r → r ≢ 0 → a′ ≡ a
+
 -- the same call, twice, with the same lists
 pub record Determined : Type 0 where
   pub read : {f h h₁ h₂ : List ℕ} {r₁ r₂ : ℕ} → ReadGiven f h h₁ r₁ → ReadGiven f h h₂ r₂ → (r₁ ≡ r₂) × (h₁ ≡ h₂)
@@ -147,10 +162,12 @@ pub record Determined : Type 0 where
 -- all of them
 pub record Boundary : Type 0 where
   pub returned : Returned
+  pub refusal-leaves : RefusalLeaves
   pub determined : Determined
   -- ---- what is held
   -- a file that is read is held as its table, which is accepted; so is all that calls make of it, and a look at it shows the useful states
   pub read-holds : {f h h′ : List ℕ} {r : ℕ} → ReadGiven f h h′ r → r ≡ 0 → Taken f × (tableIn h′ ≡ tableOf f)
+  pub read-there : (f m : List ℕ) → Taken f → Holding m → ReadGiven f m (put m 0 (heldOf (tableOf f))) 0
   pub looks : {h : List ℕ} → MadeIn h → Looks (tableIn h)
   pub look-shows : {h flags flags₁ flags₂ : List ℕ} {r₁ r₂ : ℕ} → MadeIn h → LookGiven h flags flags₁ r₁ → StatesGiven h flags flags₂ r₂
       → (r₁ ≡ r₂) × (flags₁ ≡ flags₂)
@@ -189,6 +206,9 @@ pub record Boundary : Type 0 where
   -- ---- edits in place (document 02, job 6), over every list of the two calls, refused ones included
   pub edits : {h h′ : List ℕ} {edits : List Edit} {returned : List ℕ} → Holding h → acceptedOf (tableIn h) ≡ true → EditCalls h edits returned h′
       → EditsInPlace h edits returned h′
+  -- there are such calls for every list of edits
+  pub edits-there : (h : List ℕ) (edits : List Edit) → Holding h → acceptedOf (tableIn h) ≡ true → ((e : Edit) → List·Memᴰ e edits → Whole e)
+      → (returned : List ℕ) × (h′ : List ℕ) × EditCalls h edits returned h′
   -- from a file
   pub edited-file : {f m h h′ : List ℕ} {edits : List Edit} {returned : List ℕ} → ReadGiven f m h 0 → EditCalls h edits returned h′
       → EditedFrom f edits returned (tableIn h′)
