@@ -51,8 +51,10 @@ fn reached(from: u32, next: &[u32; STATES]) -> u32 {
     found
 }
 
-/// A node that the search has found: its position and state, and how it was reached: from which place of the queue (counted from 1; 0 at the start),
-/// by which line.
+const NODES: usize = 256 * STATES; // of the longest word
+
+/// How a node was reached, by the place of the queue that it stands at: the node itself, from which place (counted from 1; 0 at the start), by which line.
+#[derive(Clone, Copy)]
 struct Node {
     number: u16,
     from: u16,
@@ -60,38 +62,41 @@ struct Node {
 }
 
 /// The lists of a search, used again by each.
-#[derive(Default)]
 pub struct Search {
-    seen: Vec<bool>,
-    queue: Vec<Node>,
+    seen: [bool; NODES],
+    queue: [Node; NODES],
+    count: usize,
 }
 
 impl Search {
+    pub fn new() -> Search {
+        Search { seen: [false; NODES], queue: [Node { number: 0, from: 0, line: 0 }; NODES], count: 0 }
+    }
+
     /// Writes the output of an accepting path that reads the word, and returns its length; None where no path does, or the table is not taken.
     pub fn translate(&mut self, held: &Held, word: &[u8], output: &mut [u8]) -> Option<usize> {
         if !taken(held) {
             return None;
         }
         let (first, order) = sorted(held);
-        self.seen.clear();
-        self.seen.resize((word.len() + 1) * STATES, false);
-        self.queue.clear();
+        self.seen[..(word.len() + 1) * STATES].fill(false);
+        self.count = 0;
         (0..STATES).filter(|state| held[STARTS_AT + state] == 1).for_each(|state| self.offer(state, 0, 0));
         let mut place = 0;
-        while place < self.queue.len() {
+        while place < self.count {
             let node = self.queue[place].number as usize;
             let (position, state) = (node / STATES, node % STATES);
             if position == word.len() && held[FINALS_AT + state] == 1 {
                 return Some(self.write(held, place, output));
             }
+            let code = word.get(position).copied().unwrap_or(0);
             for &number in &order[first[state] as usize..first[state + 1] as usize] {
-                let line = &held[LINES_AT + LINE * number as usize..];
-                let position = match line[2] {
-                    0 => position,
-                    code if word.get(position) == Some(&code) => position + 1,
-                    _ => continue,
-                };
-                self.offer(position * STATES + line[1] as usize, place + 1, number);
+                let line = &held[LINES_AT + LINE * number as usize..][..LINE];
+                if line[2] == 0 {
+                    self.offer(position * STATES + line[1] as usize, place + 1, number);
+                } else if line[2] == code {
+                    self.offer((position + 1) * STATES + line[1] as usize, place + 1, number);
+                }
             }
             place += 1;
         }
@@ -101,7 +106,8 @@ impl Search {
     fn offer(&mut self, node: usize, from: usize, line: u16) {
         if !self.seen[node] {
             self.seen[node] = true;
-            self.queue.push(Node { number: node as u16, from: from as u16, line });
+            self.queue[self.count] = Node { number: node as u16, from: from as u16, line };
+            self.count += 1;
         }
     }
 

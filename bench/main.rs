@@ -141,7 +141,7 @@ fn translation_row(name: &str, table: Table, word: &[u8], repetitions: usize, bu
         let (machine, mut output) = (machine.as_ref()?, vec![0; library::OUTPUT]);
         Some(Box::new(move || compare(name, "OpenFst", machine.translate(black_box(word), by, &mut output), expected)))
     };
-    let (mut search, mut output) = (floor::Search::default(), vec![0; library::OUTPUT]);
+    let (mut search, mut output) = (Box::new(floor::Search::new()), vec![0; library::OUTPUT]);
     let floor = || {
         let length = search.translate(black_box(&table), black_box(word), &mut output);
         compare(name, "the floor", length.map(|length| &output[..length]), expected)
