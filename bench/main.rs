@@ -577,6 +577,8 @@ fn main() {
     sections.iter().for_each(Section::print_ratios);
     println!("\n| library | shortest µs | on | longest µs | on |\n|---|---|---|---|---|");
     sections.iter().for_each(Section::print_times);
+    println!("\n## Above what is wanted\n\n| library / yardstick | table | ratio | wanted at most | floor / yardstick |\n|---|---|---|---|---|");
+    sections.iter().for_each(Section::print_missed);
     sections.iter().for_each(Section::print);
     print_memory(buffers);
 }

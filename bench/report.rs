@@ -109,6 +109,20 @@ impl Section {
         }
     }
 
+    /// Each table whose ratio is above what is wanted; beside it the floor's own ratio to the same yardstick.
+    pub fn print_missed(&self) {
+        let floor = self.yardsticks.iter().position(|yardstick| yardstick.name == FLOOR.name);
+        for (place, yardstick) in self.yardsticks.iter().enumerate() {
+            let Some(wanted) = yardstick.wanted else { continue };
+            for (row, ratio) in self.rows().filter_map(|row| Some((row, row.ratio(place)?))).filter(|(_, ratio)| *ratio > wanted) {
+                let times = |place: usize| row.others[place].map(|times| times.smallest);
+                let floor = floor.filter(|&floor| floor != place).and_then(|floor| Some(times(floor)? / times(place)?));
+                let [ratio, wanted, floor] = [Some(ratio), Some(wanted), floor].map(|number| number.map_or(NONE.into(), digits));
+                println!("| `{}` / {} | {} | **{ratio}** | {wanted} | {floor} |", self.library, yardstick.name, self.named(row));
+            }
+        }
+    }
+
     /// The tables on which the call takes the least and the most time.
     pub fn print_times(&self) {
         let by_time = |a: &&Row, b: &&Row| a.ours.smallest.total_cmp(&b.ours.smallest);
