@@ -1,4 +1,5 @@
-"""What others build on the library with: the header's sizes, its promise about the stack, and the examples (the part linked has the header itself)."""
+"""What others build on the library with: the header's sizes, its promise about the stack, the examples and the files of make-library (the part linked has
+the header itself)."""
 
 import re
 import shutil
@@ -15,6 +16,7 @@ from means.listing import Refusal
 from means.programs import ROOT, run_program
 from means.settings import share
 from means.stack import LISTS, run_stack, stack_of_lists
+from means.tools import debian
 from means.transducer import MAX_TRANSITIONS, places_of, table_file
 
 sys.path.append(str(ROOT / "cli"))
@@ -162,6 +164,21 @@ def try_examples(folder, findings):
             findings.check("examples", faults_where((status == 2 and complaint, f"exit status {status}")), b"", f"{name}: {words}")
 
 
+def try_made(folder, findings):
+    """The files of make-library: the shared object has the header's calls and nothing else, and the C example runs with it, by the name it asks for."""
+    made = run_program("env", f"ARCHIVE={find_archive()}", ROOT / "make-library", folder / "lib")
+    shared, program = folder / "lib" / "libyotselina.so", folder / "example-shared"
+    findings.check("make-library", faults_of_run(made, 0, str(shared)), b"", "made")
+    listed = run_program(debian("nm", "binutils"), "-D", "-P", "--defined-only", shared)[1]
+    declared = set(re.findall(r"^YOTSELINA_CALL (\w+)\(", text_of("include", "yotselina.h"), re.MULTILINE))
+    found = {line.split()[0] for line in listed.splitlines()}
+    findings.check("make-library", faults_where((found == declared, f"it has {sorted(found)}, declared are {sorted(declared)}")), b"", "calls")
+    complaint = compile_c("gcc", "-std=c99", *STRICT, "-o", program, ROOT / "examples" / "table.c", f"-L{shared.parent}", "-lyotselina")
+    shared.unlink()  # a program asks for the name with the version
+    run = run_program("env", f"LD_LIBRARY_PATH={shared.parent}", program, ROOT / "tables" / "single", "1", "2")
+    findings.check("make-library", [complaint] if complaint else faults_of_run(run, 0, "\noutput: 5 6\n"), b"", "the C example with the shared object")
+
+
 def try_manual(_, findings):
     """The manual's pieces of C and Rust are pieces of the examples."""
     for language, example in (("c", "table.c"), ("rust", "table.rs")):
@@ -172,5 +189,5 @@ def try_manual(_, findings):
 
 def run(findings):
     with tempfile.TemporaryDirectory() as folder:
-        for part in (try_sizes, try_stack, try_examples, try_manual):
+        for part in (try_sizes, try_stack, try_examples, try_made, try_manual):
             part(Path(folder), findings)
