@@ -2,11 +2,11 @@
 //! word, of which the rows of two input positions are kept; with a state its closure under transitions that read and write nothing enters a set. A set is
 //! the bits of a u32.
 
-use crate::plain::{read, Transition};
+use crate::plain::{read, Held, Transition};
 
-/// Whether an accepting path reads the input word and writes the output word, by the table of a valid file.
-pub fn accepts(file: &[u8], input: &[u8], output: &[u8]) -> bool {
-    let transducer = read(file);
+/// Whether an accepting path reads the input word and writes the output word, by a held table.
+pub fn accepts(held: &Held, input: &[u8], output: &[u8]) -> bool {
+    let transducer = read(held);
     let mut leaving = transducer.index(|transition| transition.source);
     let closures = closures(&leaving);
     leaving.iter_mut().for_each(|list| list.retain(|transition| !stays(transition)));

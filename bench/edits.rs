@@ -1,37 +1,39 @@
-//! The yardstick of `yotselina_append` and `yotselina_remove`, in plain Rust: the file read, its list of lines edited, and written again.
+//! The floor of `yotselina_append` and `yotselina_remove`, in plain Rust: the held table tested, its lines edited where they are, and the set of useful states
+//! worked out again.
 
-use crate::join::{file, Line};
-use crate::plain::{read, Transducer, Transition};
+use crate::floor::{fits, taken, useful};
+use crate::plain::{line_count, Held, COUNT_AT, LINE, LINES_AT, STATES, USEFUL_AT};
 
 /// What is done to a table: a line appended, by its places, or the line of a number removed.
 #[derive(Clone, Copy)]
 pub enum Edit {
-    Append([u8; 12]),
+    Append([u8; LINE]),
     Remove(usize),
 }
 
-/// The file of the edited table, by a valid file; or the number of the refusal.
-pub fn edit(text: &[u8], edit: Edit) -> Result<Vec<u8>, u32> {
-    let mut table = read(text);
-    match edit {
-        Edit::Append(places) => append(&mut table, places)?,
-        Edit::Remove(number) if number < table.transitions.len() => drop(table.transitions.remove(number)),
-        Edit::Remove(_) => return Err(18),
+/// Edits the table, or leaves it as it is and gives the number of the refusal.
+pub fn edit(held: &mut Held, edit: Edit) -> Result<(), u32> {
+    if !taken(held) {
+        return Err(8);
     }
-    let lines: Vec<Line> = table.transitions.iter().map(|line| Line(line.source, line.target, line.input, Some(line))).collect();
-    Ok(file(table.states, &table.starts, &table.finals, &lines))
-}
-
-fn append(table: &mut Transducer, places: [u8; 12]) -> Result<(), u32> {
-    let [source, target, input, count, codes @ ..] = places;
-    let (source, target, count) = (source as usize, target as usize, count as usize);
-    let fits = source < table.states && target < table.states && input <= 250 && count <= 8;
-    if !fits || codes.iter().enumerate().any(|(place, &code)| if place < count { code == 0 || code > 250 } else { code != 0 }) {
-        return Err(19);
-    }
-    if table.transitions.len() >= 256 {
-        return Err(17);
-    }
-    table.transitions.push(Transition { source, target, input, codes, count });
+    let count = line_count(held);
+    let end = LINES_AT + LINE * count;
+    let after = match edit {
+        Edit::Append(line) if !fits(&line, held[0]) => return Err(19),
+        Edit::Append(_) if count == 256 => return Err(17),
+        Edit::Remove(number) if number >= count => return Err(18),
+        Edit::Append(line) => {
+            held[end..end + LINE].copy_from_slice(&line);
+            count + 1
+        }
+        Edit::Remove(number) => {
+            held.copy_within(LINES_AT + LINE * (number + 1)..end, LINES_AT + LINE * number);
+            held[end - LINE..end].fill(0);
+            count - 1
+        }
+    };
+    held[COUNT_AT..LINES_AT].copy_from_slice(&(after as u16).to_le_bytes());
+    let set = useful(held);
+    (0..STATES).for_each(|state| held[USEFUL_AT + state] = (set >> state & 1) as u8);
     Ok(())
 }

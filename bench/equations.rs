@@ -9,7 +9,7 @@
 //!
 //! Where this fails, two accepting paths that read the same word write different outputs: both outputs are made, and compared. No witness is shown.
 
-use crate::plain::{read, Transducer, Transition};
+use crate::plain::{read, Held, Transducer, Transition};
 
 const STATES: usize = 32;
 const PAIRS: usize = STATES * STATES; // the pair (p, q) has the number STATES p + q
@@ -240,9 +240,9 @@ impl<'a> Ways<'a> {
     }
 }
 
-/// Whether the table of a valid file is split, and u.
-pub fn decide(file: &[u8]) -> (bool, usize) {
-    let transducer = read(file);
+/// Whether a held table is split, and u.
+pub fn decide(held: &Held) -> (bool, usize) {
+    let transducer = read(held);
     let leaving = Steps::new(&transducer, |transition| (transition.source, transition.target));
     let entering = Steps::new(&transducer, |transition| (transition.target, transition.source));
     let begun = Search::new(&leaving, &transducer.starts, &[true; PAIRS]);

@@ -1,13 +1,12 @@
 //! The yardstick of `yotselina_join`, in plain Rust, by the library's method: two searches over pairs of states, one along the steps from two start
 //! states and one against them from two final states, then the steps between the pairs that both have found, in the order of the lines.
 
-use crate::plain::{read, Transition};
+use crate::plain::{read, Held, Transition, COUNT_AT, FINALS_AT, HELD, LINE, LINES_AT, STARTS_AT, STATES, USEFUL_AT};
 
-const STATES: usize = 32;
 const LINES: usize = 256;
 
-/// The file of the joined table, by two valid files; or the number of the refusal.
-pub fn join(first: &[u8], second: &[u8]) -> Result<Vec<u8>, u32> {
+/// The joined table, held, by two held tables; or the number of the refusal.
+pub fn join(first: &Held, second: &Held) -> Result<Held, u32> {
     let (first, second) = (read(first), read(second));
     if first.transitions.iter().any(|transition| transition.count > 1) {
         return Err(15);
@@ -25,8 +24,14 @@ pub fn join(first: &[u8], second: &[u8]) -> Result<Vec<u8>, u32> {
     let mut numbers = [usize::MAX; STATES * STATES];
     joined.iter().enumerate().for_each(|(number, &pair)| numbers[pair] = number);
     let lines = lines(&leaving, &joined, &numbers)?;
-    let states_of = |ends: &[usize]| -> Vec<usize> { ends.iter().map(|&pair| numbers[pair]).filter(|&number| number < STATES).collect() };
-    Ok(file(joined.len().max(1), &states_of(&starts), &states_of(&finals), &lines))
+    let mut held = [0; HELD];
+    held[0] = joined.len().max(1) as u8;
+    for (from, ends) in [(STARTS_AT, &starts), (FINALS_AT, &finals), (USEFUL_AT, &joined)] {
+        ends.iter().map(|&pair| numbers[pair]).filter(|&number| number < STATES).for_each(|number| held[from + number] = 1);
+    }
+    held[COUNT_AT..LINES_AT].copy_from_slice(&(lines.len() as u16).to_le_bytes());
+    held[LINES_AT..LINES_AT + LINE * lines.len()].copy_from_slice(lines.as_flattened());
+    Ok(held)
 }
 
 /// Transitions of each side, by state.
@@ -71,16 +76,14 @@ fn search(sides: &Sides, roots: &[usize], end: impl Fn(&Transition) -> usize) ->
     found
 }
 
-/// A line: the numbers of the states that it leaves and enters, what it reads, and what writes its codes.
-pub struct Line<'a>(pub usize, pub usize, pub u8, pub Option<&'a Transition>);
-
-fn lines<'a>(sides: &Sides<'a>, joined: &[usize], numbers: &[usize]) -> Result<Vec<Line<'a>>, u32> {
+/// The steps between joined pairs, as lines.
+fn lines(sides: &Sides, joined: &[usize], numbers: &[usize]) -> Result<Vec<[u8; LINE]>, u32> {
     let mut lines = Vec::new();
     for (number, &pair) in joined.iter().enumerate() {
         steps(sides, pair, |first, second| {
             let next = numbers[entered(pair, first, second, |transition| transition.target)];
             if next < STATES {
-                lines.push(Line(number, next, first.map_or(0, |transition| transition.input), second));
+                lines.push(line(number, next, first.map_or(0, |transition| transition.input), second));
             }
         });
         if lines.len() > LINES {
@@ -90,23 +93,9 @@ fn lines<'a>(sides: &Sides<'a>, joined: &[usize], numbers: &[usize]) -> Result<V
     Ok(lines)
 }
 
-/// The file of a table.
-pub fn file(states: usize, starts: &[usize], finals: &[usize], lines: &[Line]) -> Vec<u8> {
-    let mut text = Vec::with_capacity(18 + 6 * (starts.len() + finals.len()) + 50 * lines.len());
-    put(&mut text, b'T', [states, starts.len(), finals.len(), lines.len()]);
-    starts.iter().for_each(|&state| put(&mut text, b'S', [state]));
-    finals.iter().for_each(|&state| put(&mut text, b'F', [state]));
-    for &Line(source, target, input, written) in lines {
-        let output = written.map_or(&[][..], Transition::output);
-        put(&mut text, b'L', [source, target, input as usize, output.len()].into_iter().chain(output.iter().map(|&code| code as usize)));
-    }
-    text
-}
-
-/// Appends a record; its numbers have three digits at most.
-fn put(text: &mut Vec<u8>, letter: u8, numbers: impl IntoIterator<Item = usize>) {
-    let digit = |number: usize, place: usize| if number >= place || place == 1 { b'0' + (number / place % 10) as u8 } else { b' ' };
-    text.push(letter);
-    numbers.into_iter().for_each(|number| text.extend([b' ', digit(number, 100), digit(number, 10), digit(number, 1)]));
-    text.push(b'\n');
+fn line(source: usize, target: usize, input: u8, writes: Option<&Transition>) -> [u8; LINE] {
+    let (count, codes) = writes.map_or((0, [0; 8]), |transition| (transition.count, transition.codes));
+    let mut line = [source as u8, target as u8, input, count as u8, 0, 0, 0, 0, 0, 0, 0, 0];
+    line[4..].copy_from_slice(&codes);
+    line
 }

@@ -1,12 +1,16 @@
-//! Measures the library side by side with plain Rust on the same tables, in one process, and prints FIGURES.md.
-//! `bench REPETITIONS COMPILER`; bench/run builds and starts it. README.md says how it is measured.
+//! Measures the library side by side with plain Rust and OpenFst on the same tables, in one process, and prints FIGURES.md.
+//! `bench REPETITIONS VERSIONS`; bench/run builds and starts it. README.md says how it is measured.
 
 mod accepts;
 mod edits;
 mod equations;
+mod floor;
 mod join;
 mod library;
+mod measure;
+mod openfst;
 mod plain;
+mod report;
 mod residue;
 mod search;
 mod stack;
@@ -14,136 +18,19 @@ mod tables;
 
 use edits::Edit;
 use library::Buffers;
+use measure::{compare, Call};
+use openfst::{By, Machine};
+use plain::{Held, HELD, STATES, USEFUL_AT};
+use report::{grouped, plain, Row, Section, FLOOR, OPENFST, RESIDUE};
 use std::hint::black_box;
 use tables::*;
 
-// --- measuring -------------------------------------------------------------------------------------------------------
-
-#[repr(C)]
-struct Timespec {
-    seconds: i64,
-    nanoseconds: i64,
+fn hold(table: &Table) -> Held {
+    library::hold(&table.file())
 }
 
-extern "C" {
-    fn clock_gettime(clock: i32, time: *mut Timespec) -> i32;
-}
-
-const PROCESS_TIME: i32 = 2; // CLOCK_PROCESS_CPUTIME_ID
-const SAMPLE: f64 = 2_000.0; // microseconds that the calls of one repetition take at least, together
-const LONG: f64 = 50.0; // microseconds from which on a call of the library counts as long in the summary
-
-/// The processor time of this process, in microseconds.
-fn now() -> f64 {
-    let mut time = Timespec { seconds: 0, nanoseconds: 0 };
-    assert_eq!(unsafe { clock_gettime(PROCESS_TIME, &mut time) }, 0);
-    time.seconds as f64 * 1e6 + time.nanoseconds as f64 / 1e3
-}
-
-/// One of those that are compared: its call is made so often that a repetition lasts long enough; a time is that of one call.
-struct Side<'a> {
-    call: &'a mut dyn FnMut(),
-    calls: usize,
-    times: Vec<f64>,
-}
-
-impl<'a> Side<'a> {
-    fn new(call: &'a mut dyn FnMut()) -> Side<'a> {
-        let mut side = Side { call, calls: 1, times: Vec::new() };
-        side.repetition();
-        while side.repetition() * (side.calls as f64) < SAMPLE {
-            side.calls *= 2;
-        }
-        side
-    }
-
-    fn repetition(&mut self) -> f64 {
-        let before = now();
-        (0..self.calls).for_each(|_| (self.call)());
-        (now() - before) / self.calls as f64
-    }
-}
-
-/// The time of one call over all repetitions, in microseconds.
-struct Times {
-    smallest: f64,
-    median: f64,
-}
-
-impl Times {
-    fn of(mut times: Vec<f64>) -> Times {
-        times.sort_by(f64::total_cmp);
-        Times { smallest: times[0], median: (times[(times.len() - 1) / 2] + times[times.len() / 2]) / 2.0 }
-    }
-}
-
-/// Measures the calls of one table. The sides take turns, so that a busy machine slows all.
-fn measure<const SIDES: usize>(name: &str, repetitions: usize, calls: [&mut dyn FnMut(); SIDES]) -> [Times; SIDES] {
-    eprintln!("bench: {name}");
-    let mut sides = calls.map(Side::new);
-    for _ in 0..repetitions {
-        for side in &mut sides {
-            let time = side.repetition();
-            side.times.push(time);
-        }
-    }
-    sides.map(|side| Times::of(side.times))
-}
-
-struct Row {
-    name: String,
-    facts: [String; 2],
-    ours: Times,
-    yardstick: Times,
-    net: Option<Net>,
-}
-
-/// The smallest times of the library and of the yardstick with the same method, each less that of its own reading of the same file.
-struct Net {
-    ours: f64,
-    same_method: f64,
-}
-
-impl Row {
-    fn ratio(&self) -> f64 {
-        self.ours.smallest / self.yardstick.smallest
-    }
-
-    /// The row as it is printed: the ratios first.
-    fn cells(&self) -> Vec<String> {
-        let mut cells = vec![self.name.clone(), format!("**{}**", digits(self.ratio())), digits(self.ours.median / self.yardstick.median)];
-        cells.extend(self.net.iter().map(|net| format!("**{}**", digits(net.ratio()))));
-        cells.extend(self.facts.clone());
-        cells.extend([&self.ours, &self.yardstick].iter().flat_map(|times| [times.smallest, times.median]).map(digits));
-        cells.extend(self.net.iter().flat_map(|net| [net.ours, net.same_method]).map(digits));
-        cells
-    }
-}
-
-impl Net {
-    fn ratio(&self) -> f64 {
-        self.ours / self.same_method
-    }
-}
-
-/// Ends the run where an answer is not the yardstick's: nothing wrong is timed.
-fn compare<T: PartialEq + std::fmt::Debug>(name: &str, side: &str, answer: T, expected: T) {
-    if answer != expected {
-        let cut = |answer| format!("{answer:?}").chars().take(200).collect::<String>();
-        eprintln!("bench: {name}: THE ANSWERS DIFFER: {side} has {}, the yardstick {}", cut(answer), cut(expected));
-        std::process::exit(1)
-    }
-}
-
-// --- reading ---------------------------------------------------------------------------------------------------------
-
-fn reading_row(name: &str, table: Table, repetitions: usize) -> Row {
-    let file = table.file();
-    let facts = [grouped(file.len()), plain::read(&file).transitions.len().to_string()];
-    let mut ours = || compare(name, "the library", library::check(black_box(&file)), 0);
-    let mut yardstick = || drop(black_box(plain::read(black_box(&file))));
-    let [ours, yardstick] = measure(name, repetitions, [&mut ours, &mut yardstick]);
-    Row { name: name.to_string(), facts, ours, yardstick, net: None }
+fn line_count(table: &Held) -> String {
+    plain::line_count(table).to_string()
 }
 
 // --- the verdict -----------------------------------------------------------------------------------------------------
@@ -189,57 +76,89 @@ fn verdict_tables() -> Vec<(&'static str, Tables)> {
 }
 
 fn verdict_row(name: &str, split: bool, table: Table, repetitions: usize, buffers: &mut Buffers) -> Row {
-    let file = table.file();
-    let (found, useful) = residue::decide(&file);
+    let table = hold(&table);
+    let (found, useful) = residue::decide(&table);
     assert_eq!(found, split, "{name}: residue.rs does not give the verdict that the table was made for");
     let facts = [["single", "split"][split as usize].to_string(), useful.to_string()];
-    let mut ours = || compare(name, "the library", buffers.verdict(black_box(&file)), (0, split as u64, useful as u64));
-    let mut residue = || assert!(residue::decide(black_box(&file)) == (split, useful));
-    let mut check = || compare(name, "the library", library::check(black_box(&file)), 0);
-    let mut equations = || compare(name, "equations.rs", equations::decide(black_box(&file)), (split, useful));
-    let mut read = || drop(black_box(plain::read(black_box(&file))));
-    let calls: [&mut dyn FnMut(); 5] = [&mut ours, &mut residue, &mut check, &mut equations, &mut read];
-    let [ours, yardstick, check, equations, read] = measure(name, repetitions, calls);
-    let net = Net { ours: ours.smallest - check.smallest, same_method: equations.smallest - read.smallest };
-    Row { name: name.to_string(), facts, ours, yardstick, net: Some(net) }
+    let ours = || compare(name, "the library", buffers.verdict(black_box(&table)), (0, split as u64, useful as u64));
+    let residue = || compare(name, "residue.rs", residue::decide(black_box(&table)), (split, useful));
+    let floor = || {
+        let table = black_box(&table);
+        compare(name, "the floor", floor::taken(table).then(|| equations::decide(table)), Some((split, useful)))
+    };
+    Row::measured(name, facts, repetitions, Box::new(ours), vec![vec![Box::new(residue)], vec![Box::new(floor)]])
+}
+
+fn verdict_section(repetitions: usize, buffers: &mut Buffers) -> Section {
+    let mut section = Section::new("Verdict", "yotselina_verdict", vec![RESIDUE, FLOOR], ["verdict", "u"]);
+    for (title, tables) in verdict_tables() {
+        section.add(title, tables.into_iter().map(|(name, split, table)| verdict_row(&name, split, table, repetitions, buffers)));
+    }
+    section
 }
 
 // --- the translator --------------------------------------------------------------------------------------------------
 
 type Translations = Vec<(&'static str, Table, Vec<u8>)>;
 
-/// On single tables only: on others the two may follow different paths.
+/// On single tables only: on others the sides may follow different paths.
 fn translations() -> Vec<(&'static str, Translations)> {
     let lengths = |name, table: Table, inputs| [1, 16, 255].map(|length| (name, table.clone(), word(inputs, length)));
-    let growth = [
-        lengths("deterministic, 256 lines", deterministic(), 8),
-        lengths("ring of 32, 8 lines each", ring(32, 8, 8), 1),
-        lengths("32 states at every position, lines that read nothing", silent(), 1),
+    let smallest = vec![("one state, no lines", one_state(), word(1, 0)), ("D", d([5, 6]), word(2, 2))];
+    let small = [lengths("one loop", loops(1, 1), 1), lengths("16 loops", loops(16, 16), 16)];
+    let deterministic = [lengths("250 loops, 250 inputs", loops(250, 250), 250), lengths("deterministic, 256 lines", deterministic(), 8)];
+    let dense_tables = [
+        lengths("dense, 16 states all to all, 1 input", dense(16, 1), 1),
+        lengths("dense, 32 states, 2 inputs", dense(32, 2), 2),
+        lengths("dense, 32 states, 8 inputs", dense(32, 8), 8),
+        lengths("dense, 32 states, 8 inputs, no final state", dense(32, 8).without_finals(), 8),
     ];
+    let rings = [lengths("ring of 32, 1 line each", ring(32, 1, 8), 1), lengths("ring of 32, 8 lines each", ring(32, 8, 8), 1)];
     let longest = vec![
         ("cycles of 15 and 17, 8 lines each", cycles(15, 17, 8), word(1, 255)),
         ("cycles of 15 and 17, 1 line each", cycles(15, 17, 1), word(1, 255)),
-        ("dense, 16 states all to all, 1 input", dense(16, 1), word(1, 255)),
-        ("dense, 32 states, 2 inputs", dense(32, 2), word(2, 255)),
-        ("dense, 32 states, 8 inputs", dense(32, 8), word(8, 255)),
-        ("dense, 32 states, 8 inputs, no final state", dense(32, 8).without_finals(), word(8, 255)),
         ("delayed by 480 codes, 3 lines each", delayed(4, 3), delayed_word(4)),
         ("delayed by 960 codes, 1 line each", delayed(8, 1), delayed_word(8)),
     ];
-    let small = vec![("one state, no lines", one_state(), word(1, 0)), ("one loop", loops(1, 1), word(1, 1)), ("D", d([5, 6]), word(2, 2))];
-    vec![("Small tables", small), ("Growth with the word", growth.concat()), ("Cycles, dense and delayed", longest)]
+    vec![
+        ("Small tables", smallest.into_iter().chain(small.concat()).collect()),
+        ("Deterministic", deterministic.concat()),
+        ("Dense", dense_tables.concat()),
+        ("Rings", rings.concat()),
+        ("Silent: 32 states at every position, lines that read nothing", lengths("silent", silent(), 1).into()),
+        ("Cycles and delayed", longest),
+    ]
 }
 
 fn translation_row(name: &str, table: Table, word: &[u8], repetitions: usize, buffers: &mut Buffers) -> Row {
-    let file = table.file();
-    let found = search::translate(&file, word);
-    let expected = found.as_deref().ok_or(library::UNREAD);
+    let table = hold(&table);
+    let found = search::translate(&table, word);
+    let expected = found.as_deref();
     let facts = [word.len().to_string(), expected.map_or("unread".into(), |output| grouped(output.len()))];
-    buffers.output.fill(0);
-    let mut ours = || compare(name, "the library", buffers.translate(black_box(&file), black_box(word)), expected);
-    let mut yardstick = || assert!(search::translate(black_box(&file), black_box(word)) == found);
-    let [ours, yardstick] = measure(name, repetitions, [&mut ours, &mut yardstick]);
-    Row { name: name.to_string(), facts, ours, yardstick, net: None }
+    let ours = || compare(name, "the library", buffers.translate(black_box(&table), black_box(word)), expected.ok_or(library::UNREAD));
+    let machine = Machine::hold(&table);
+    let openfst = |by: By| -> Option<Call> {
+        let (machine, mut output) = (machine.as_ref()?, vec![0; library::OUTPUT]);
+        Some(Box::new(move || compare(name, "OpenFst", machine.translate(black_box(word), by, &mut output), expected)))
+    };
+    let (mut search, mut output) = (Box::new(floor::Search::new()), vec![0; library::OUTPUT]);
+    let floor = || {
+        let length = search.translate(black_box(&table), black_box(word), &mut output);
+        compare(name, "the floor", length.map(|length| &output[..length]), expected)
+    };
+    let plain_rust = || compare(name, "search.rs", search::translate(black_box(&table), black_box(word)).as_deref(), expected);
+    let others: [Vec<Call>; 3] =
+        [[By::Queue, By::Stack].into_iter().filter_map(openfst).collect(), vec![Box::new(floor)], vec![Box::new(plain_rust)]];
+    Row::measured(name, facts, repetitions, Box::new(ours), others.into())
+}
+
+fn translation_section(repetitions: usize, buffers: &mut Buffers) -> Section {
+    let yardsticks = vec![OPENFST, FLOOR, plain("search.rs")];
+    let mut section = Section::new("Translation", "yotselina_translate", yardsticks, ["codes read", "codes written"]);
+    for (title, rows) in translations() {
+        section.add(title, rows.into_iter().map(|(name, table, word)| translation_row(name, table, &word, repetitions, buffers)));
+    }
+    section
 }
 
 // --- the word test ---------------------------------------------------------------------------------------------------
@@ -268,7 +187,7 @@ fn questions() -> Vec<(&'static str, Vec<Question>)> {
         [yes(name, &table, input, output), Question { yes: false, ..yes(name, &table, input, &other) }]
     };
     let along = |name: &str, table: Table, input: &[u8]| {
-        let output = search::translate(&table.file(), input).unwrap();
+        let output = search::translate(&library::hold(&table.file()), input).unwrap();
         both(name, table, input, &output)
     };
     let (ones, fives) = (word(1, library::ACCEPTS_INPUT), vec![5; library::ACCEPTS_OUTPUT]);
@@ -311,24 +230,27 @@ fn questions() -> Vec<(&'static str, Vec<Question>)> {
 
 fn question_row(question: Question, repetitions: usize, buffers: &mut Buffers) -> Row {
     let Question { name, table, input, output, yes } = question;
-    let file = table.file();
-    assert_eq!(accepts::accepts(&file, &input, &output), yes, "{name}: accepts.rs does not give the answer that the words were made for");
+    let table = hold(&table);
+    assert_eq!(accepts::accepts(&table, &input, &output), yes, "{name}: accepts.rs does not give the answer that the words were made for");
     let facts = [format!("{}, {}", input.len(), output.len()), ["no", "yes"][yes as usize].to_string()];
-    let given = || (black_box(&file[..]), black_box(&input[..]), black_box(&output[..]));
-    let mut ours = || {
-        let (file, input, output) = given();
-        compare(&name, "the library", buffers.accepts(file, input, output), (0, yes as u64))
+    let given = || (black_box(&table), black_box(&input[..]), black_box(&output[..]));
+    let ours = || {
+        let (table, input, output) = given();
+        compare(&name, "the library", buffers.accepts(table, input, output), (0, yes as u64))
     };
-    let mut plain_rust = || {
-        let (file, input, output) = given();
-        compare(&name, "accepts.rs", accepts::accepts(file, input, output), yes)
+    let floor = || {
+        let (table, input, output) = given();
+        compare(&name, "the floor", floor::taken(table) && accepts::accepts(table, input, output), yes)
     };
-    let mut check = || compare(&name, "the library", library::check(black_box(&file)), 0);
-    let mut read = || drop(black_box(plain::read(black_box(&file))));
-    let calls: [&mut dyn FnMut(); 4] = [&mut ours, &mut plain_rust, &mut check, &mut read];
-    let [ours, yardstick, check, read] = measure(&name, repetitions, calls);
-    let net = Net { ours: ours.smallest - check.smallest, same_method: yardstick.smallest - read.smallest };
-    Row { name, facts, ours, yardstick, net: Some(net) }
+    Row::measured(&name, facts, repetitions, Box::new(ours), vec![vec![Box::new(floor)]])
+}
+
+fn question_section(repetitions: usize, buffers: &mut Buffers) -> Section {
+    let mut section = Section::new("Word test", "yotselina_accepts", vec![FLOOR], ["codes read, written", "answer"]);
+    for (title, rows) in questions() {
+        section.add(title, rows.into_iter().map(|question| question_row(question, repetitions, buffers)));
+    }
+    section
 }
 
 // --- the join --------------------------------------------------------------------------------------------------------
@@ -381,29 +303,47 @@ fn joins() -> Vec<(&'static str, Joins)> {
     ]
 }
 
-fn join_row(name: &str, tables: [Table; 2], repetitions: usize, buffers: &mut Buffers) -> Row {
-    let [first, second] = tables.map(|table| table.file());
-    let found = join::join(&first, &second);
-    let expected = found.as_deref().map_err(|&number| number);
-    let facts = match &found {
-        Ok(file) => [plain::read(file).states.to_string(), plain::read(file).transitions.len().to_string()],
+/// OpenFst's machines of two tables, whose join must be taken; they must read the same of some words as the joined table.
+fn composed(name: &str, first: &Held, second: &Held, joined: &Held) -> Option<[Machine; 2]> {
+    let machines = [Machine::hold_first(first)?, Machine::hold(second)?];
+    let composition = machines[0].join(&machines[1]);
+    for (inputs, length) in [(1, 0), (1, 1), (1, 2), (2, 5), (8, 8), (250, 250)] {
+        let word = word(inputs, length);
+        compare(name, "OpenFst", composition.reads(&word), search::translate(joined, &word).is_some());
+    }
+    Some(machines)
+}
+
+fn join_row(name: &str, tables: [Table; 2], repetitions: usize) -> Row {
+    let [first, second] = tables.map(|table| hold(&table));
+    let expected = join::join(&first, &second);
+    let facts = match &expected {
+        Ok(joined) => [joined[0].to_string(), line_count(joined)],
         Err(number) => ["none".to_string(), format!("refused {number}")],
     };
-    let given = || (black_box(&first[..]), black_box(&second[..]));
-    let mut ours = || {
+    let given = || (black_box(&first), black_box(&second));
+    let mut result = [0; HELD];
+    let ours = || {
         let (first, second) = given();
-        compare(name, "the library", buffers.join(first, second), expected)
+        let done = library::join(first, second, &mut result);
+        compare(name, "the library", done.map(|()| &result), expected.as_ref().map_err(|&number| number))
     };
-    let mut plain_rust = || {
+    let floor = || {
         let (first, second) = given();
-        compare(name, "join.rs", join::join(first, second).as_deref().map_err(|&number| number), expected)
+        let joined = if floor::taken(first) && floor::taken(second) { join::join(first, second) } else { Err(8) };
+        compare(name, "the floor", joined.as_ref(), expected.as_ref())
     };
-    let mut check = || [&first, &second].into_iter().for_each(|file| compare(name, "the library", library::check(black_box(file)), 0));
-    let mut read = || [&first, &second].into_iter().for_each(|file| drop(black_box(plain::read(black_box(file)))));
-    let calls: [&mut dyn FnMut(); 4] = [&mut ours, &mut plain_rust, &mut check, &mut read];
-    let [ours, yardstick, check, read] = measure(name, repetitions, calls);
-    let net = Net { ours: ours.smallest - check.smallest, same_method: yardstick.smallest - read.smallest };
-    Row { name: name.to_string(), facts, ours, yardstick, net: Some(net) }
+    let machines = expected.as_ref().ok().and_then(|joined| composed(name, &first, &second, joined));
+    let openfst = machines.as_ref().map(|[first, second]| -> Call { Box::new(move || drop(black_box(black_box(first).join(black_box(second))))) });
+    Row::measured(name, facts, repetitions, Box::new(ours), vec![openfst.into_iter().collect(), vec![Box::new(floor)]])
+}
+
+fn join_section(repetitions: usize) -> Section {
+    let mut section = Section::new("Join", "yotselina_join", vec![OPENFST, FLOOR], ["states", "lines"]);
+    for (title, rows) in joins() {
+        section.add(title, rows.into_iter().map(|(name, first, second)| join_row(name, [first, second], repetitions)));
+    }
+    section
 }
 
 // --- edits -----------------------------------------------------------------------------------------------------------
@@ -434,46 +374,128 @@ fn removals() -> Edits {
     ]
 }
 
-fn edit_row(name: &str, table: Table, edit: Edit, repetitions: usize, buffers: &mut Buffers) -> Row {
-    let file = table.file();
-    let found = edits::edit(&file, edit);
-    let expected = found.as_deref().map_err(|&number| number);
-    let answer = found.as_ref().map_or_else(|number| format!("refused {number}"), |edited| grouped(edited.len()));
-    let facts = [plain::read(&file).transitions.len().to_string(), answer];
-    let given = || (black_box(&file[..]), black_box(edit));
-    let mut ours = || {
-        let (file, edit) = given();
-        compare(name, "the library", buffers.edit(file, edit), expected)
+/// An edit is done to a copy of the table, which is made anew before each.
+fn edit_row(name: &str, table: Table, edit: Edit, repetitions: usize) -> Row {
+    let table = hold(&table);
+    let mut edited = table;
+    let expected = edits::edit(&mut edited, edit).map(|()| edited);
+    let facts = [line_count(&table), expected.map_or_else(|number| format!("refused {number}"), |edited| line_count(&edited))];
+    let call = |side: &'static str, call: fn(&mut Held, Edit) -> Result<(), u32>| -> Call {
+        let mut copy = table;
+        Box::new(move || {
+            copy.copy_from_slice(black_box(&table));
+            let done = call(&mut copy, black_box(edit));
+            compare(name, side, done.map(|()| &copy), expected.as_ref().map_err(|&number| number))
+        })
     };
-    let mut plain_rust = || {
-        let (file, edit) = given();
-        compare(name, "edits.rs", edits::edit(file, edit).as_deref().map_err(|&number| number), expected)
-    };
-    let [ours, yardstick] = measure(name, repetitions, [&mut ours, &mut plain_rust]);
-    Row { name: name.to_string(), facts, ours, yardstick, net: None }
+    Row::measured(name, facts, repetitions, call("the library", library::edit), vec![vec![call("the floor", edits::edit)]])
 }
 
-fn edit_section(call: &'static str, title: &'static str, rows: Edits, repetitions: usize, buffers: &mut Buffers) -> Section {
-    let mut section = Section::new(title, call, ["edits.rs", ""], ["lines", "bytes written"]);
-    let rows = rows.into_iter().map(|(name, table, edit)| edit_row(name, table, edit, repetitions, buffers));
-    section.groups.push(("Small and full tables", rows.collect()));
+fn edit_section(title: &'static str, call: &'static str, rows: Edits, repetitions: usize) -> Section {
+    let mut section = Section::new(title, call, vec![FLOOR], ["lines", "lines then"]);
+    section.add("Small and full tables", rows.into_iter().map(|(name, table, edit)| edit_row(name, table, edit, repetitions)));
     section
+}
+
+// --- files and states ------------------------------------------------------------------------------------------------
+
+fn some_tables() -> [(&'static str, Table); 4] {
+    [
+        ("one state, no lines", one_state()),
+        ("D", d([5, 6])),
+        ("ring of 32, 8 lines each", ring(32, 8, 8)),
+        ("dense, 32 states, 8 inputs", dense(32, 8)),
+    ]
+}
+
+/// A section of one call on some tables. Its row is made of the name, the table's file, the held table and two facts on it.
+fn table_section(
+    title: &'static str,
+    call: &'static str,
+    yardstick: report::Yardstick,
+    mut row: impl FnMut(&str, &[u8], &Held, [String; 2]) -> Row,
+) -> Section {
+    let mut section = Section::new(title, call, vec![yardstick], ["bytes of the file", "lines"]);
+    let rows = some_tables().map(|(name, table)| {
+        let (file, held) = (table.file(), hold(&table));
+        row(name, &file, &held, [grouped(file.len()), line_count(&held)])
+    });
+    section.add("Small and full tables", rows.into_iter());
+    section
+}
+
+fn check_section(repetitions: usize) -> Section {
+    table_section("Checking a file", "yotselina_check", plain("plain.rs"), |name, file, _, facts| {
+        let ours = || compare(name, "the library", library::check(black_box(file)), 0);
+        let plain_rust = || drop(black_box(plain::read_file(black_box(file))));
+        Row::measured(name, facts, repetitions, Box::new(ours), vec![vec![Box::new(plain_rust)]])
+    })
+}
+
+fn read_section(repetitions: usize) -> Section {
+    table_section("Reading", "yotselina_read", plain("plain.rs"), |name, file, held, facts| {
+        let mut table = [0; HELD];
+        let ours = || {
+            compare(name, "the library", library::read(black_box(file), &mut table), 0);
+            compare(name, "the library", &table, held)
+        };
+        let plain_rust = || drop(black_box(plain::read_file(black_box(file))));
+        Row::measured(name, facts, repetitions, Box::new(ours), vec![vec![Box::new(plain_rust)]])
+    })
+}
+
+fn write_section(repetitions: usize, buffers: &mut Buffers) -> Section {
+    table_section("Writing", "yotselina_write", FLOOR, |name, file, held, facts| {
+        let ours = || compare(name, "the library", buffers.write(black_box(held)), Ok(file));
+        let floor = || {
+            let held = black_box(held);
+            compare(name, "the floor", floor::taken(held).then(|| plain::write(held)).as_deref(), Some(file))
+        };
+        Row::measured(name, facts, repetitions, Box::new(ours), vec![vec![Box::new(floor)]])
+    })
+}
+
+fn useful_section(repetitions: usize, buffers: &mut Buffers) -> Section {
+    table_section("Useful states", "yotselina_useful_states", FLOOR, |name, _, held, facts| {
+        let flags = &held[USEFUL_AT..USEFUL_AT + STATES];
+        let bits = flags.iter().rev().fold(0, |bits, &flag| bits << 1 | flag as u32);
+        let ours = || compare(name, "the library", buffers.useful_states(black_box(held)), Ok(flags));
+        let floor = || {
+            let held = black_box(held);
+            compare(name, "the floor", floor::taken(held).then(|| floor::useful(held)), Some(bits))
+        };
+        Row::measured(name, facts, repetitions, Box::new(ours), vec![vec![Box::new(floor)]])
+    })
+}
+
+/// The floor of a look is a copy of 32 bytes.
+fn look_section(repetitions: usize, buffers: &mut Buffers) -> Section {
+    table_section("The look", "yotselina_look", plain("a copy"), |name, _, held, facts| {
+        let flags = &held[USEFUL_AT..USEFUL_AT + STATES];
+        let mut copy = vec![0; STATES];
+        let ours = || compare(name, "the library", buffers.look(black_box(held)), Ok(flags));
+        let plain_rust = || {
+            copy.copy_from_slice(&black_box(held)[USEFUL_AT..USEFUL_AT + STATES]);
+            compare(name, "a copy", &copy[..], flags)
+        };
+        Row::measured(name, facts, repetitions, Box::new(ours), vec![vec![Box::new(plain_rust)]])
+    })
 }
 
 // --- memory ----------------------------------------------------------------------------------------------------------
 
-/// What a call is given: a table's file, an input word, an output word, the file of a table behind the first.
-#[derive(Default)]
+/// What a call is given: a table, its file, an input word, an output word, a table behind the first.
 struct Given {
+    table: Held,
     file: Vec<u8>,
     word: Vec<u8>,
     output: Vec<u8>,
-    second: Vec<u8>,
+    second: Held,
 }
 
-/// The most stack that each call needs on all files and words that are measured.
+/// The most stack that each call needs on all tables and words that are measured.
 fn print_memory(buffers: &mut Buffers) {
-    let single = |table: Table| Given { file: table.file(), second: one_state().file(), ..Given::default() };
+    let single = |table: Table| Given { table: hold(&table), file: table.file(), word: vec![], output: vec![], second: hold(&one_state()) };
     let mut given: Vec<Given> = Vec::new();
     for (_, rows) in translations() {
         given.extend(rows.into_iter().map(|(_, table, word)| Given { word, ..single(table) }));
@@ -485,26 +507,30 @@ fn print_memory(buffers: &mut Buffers) {
         given.extend(rows.into_iter().map(|row| Given { word: row.input, output: row.output, ..single(row.table) }));
     }
     for (_, rows) in joins() {
-        given.extend(rows.into_iter().map(|(_, first, second)| Given { second: second.file(), ..single(first) }));
+        given.extend(rows.into_iter().map(|(_, first, second)| Given { second: hold(&second), ..single(first) }));
     }
-    type Call = fn(&mut Buffers, &Given) -> u32;
-    let calls: [(&str, usize, Call); 12] = [
+    type Made = fn(&mut Buffers, &Given) -> u32;
+    let calls: [(&str, usize, Made); 13] = [
         ("check", 0, |_, given| library::check(&given.file)),
-        ("verdict", 5 * library::WITNESS + 2 * library::WITNESS_OUTPUT + 7 * 8, |buffers, given| buffers.verdict(&given.file).0),
-        ("translate", library::OUTPUT + 8, |buffers, given| buffers.translate(&given.file, &given.word).err().unwrap_or(0)),
-        ("accepts", 8, |buffers, Given { file, word, output, .. }| buffers.accepts(file, &word[..word.len().min(library::ACCEPTS_INPUT)], output).0),
-        ("useful_states", library::STATES, |buffers, given| buffers.useful_states(&given.file)),
-        ("look", library::STATES, |buffers, given| buffers.look(&given.file)),
-        ("useful_pairs", library::PAIRS + 8, |buffers, given| buffers.useful_pairs(&given.file)),
+        ("read", HELD, |buffers, given| library::read(&given.file, &mut buffers.table)),
+        ("write", library::FILE + 8, |buffers, given| number(buffers.write(&given.table))),
+        ("verdict", 5 * library::WITNESS + 2 * library::WITNESS_OUTPUT + 7 * 8, |buffers, given| buffers.verdict(&given.table).0),
+        ("translate", library::OUTPUT + 8, |buffers, given| number(buffers.translate(&given.table, &given.word))),
+        ("accepts", 8, |buffers, Given { table, word, output, .. }| {
+            buffers.accepts(table, &word[..word.len().min(library::ACCEPTS_INPUT)], output).0
+        }),
+        ("useful_states", STATES, |buffers, given| number(buffers.useful_states(&given.table))),
+        ("look", STATES, |buffers, given| number(buffers.look(&given.table))),
+        ("useful_pairs", library::PAIRS + 8, |buffers, given| buffers.useful_pairs(&given.table)),
+        ("append", 0, |buffers, _| number(library::edit(&mut buffers.table, Edit::Append(SHORT_LINE)))),
+        ("remove", 0, |buffers, _| number(library::edit(&mut buffers.table, Edit::Remove(0)))),
+        ("join", HELD, |buffers, given| number(library::join(&given.table, &given.second, &mut buffers.table))),
         ("difference", 2 * 8, |buffers, given| buffers.difference(&given.file, &given.word)),
-        ("write", library::FILE + 8, |buffers, given| buffers.write(&given.file)),
-        ("join", library::FILE + 8, |buffers, given| buffers.join(&given.file, &given.second).err().unwrap_or(0)),
-        ("append", library::FILE + 8, |buffers, given| buffers.edit(&given.file, Edit::Append(SHORT_LINE)).err().unwrap_or(0)),
-        ("remove", library::FILE + 8, |buffers, given| buffers.edit(&given.file, Edit::Remove(0)).err().unwrap_or(0)),
     ];
     println!("\n## Memory of each call\n\n| call | stack, bytes | lent buffers, bytes |\n|---|---|---|");
-    let stacks = calls.map(|(name, bytes, call)| {
+    for (name, bytes, call) in calls {
         let depth = |given: &Given| {
+            buffers.table = given.table;
             stack::depth(&mut || {
                 let returned = call(buffers, given);
                 let expected = returned == 0 || returned == library::UNREAD || library::OTHER_REFUSALS.contains(&(name, returned));
@@ -513,92 +539,11 @@ fn print_memory(buffers: &mut Buffers) {
         };
         let stack = given.iter().map(depth).max().unwrap();
         println!("| `yotselina_{name}` | {} | {} |", grouped(stack), grouped(bytes));
-        stack
-    });
-    let [check, verdict, ..] = stacks;
-    let numbers = [verdict, check, verdict - check].map(grouped);
-    println!("\nStack of a verdict: {} bytes; of reading alone, by `yotselina_check`: {}; difference: {}.", numbers[0], numbers[1], numbers[2]);
-}
-
-// --- printing --------------------------------------------------------------------------------------------------------
-
-/// All that is measured of one call.
-struct Section {
-    title: &'static str,
-    library: &'static str,
-    yardstick: &'static str,
-    same_method: &'static str, // the yardstick of the net ratio, where there is one
-    facts: [&'static str; 2],
-    groups: Vec<(&'static str, Vec<Row>)>,
-}
-
-impl Section {
-    fn new(title: &'static str, library: &'static str, yardsticks: [&'static str; 2], facts: [&'static str; 2]) -> Section {
-        let [yardstick, same_method] = yardsticks;
-        Section { title, library, yardstick, same_method, facts, groups: Vec::new() }
-    }
-
-    fn print(&self) {
-        println!("\n## {}", self.title);
-        for (title, rows) in &self.groups {
-            println!("\n### {title}\n");
-            let has_net = rows.iter().any(|row| row.net.is_some());
-            let net = [format!("net ratio to {} | ", self.same_method), format!(" | net library µs | net {} µs", self.same_method)];
-            let [ratio, times] = if has_net { net } else { Default::default() };
-            let (facts, yardstick) = (self.facts.join(" | "), self.yardstick);
-            let head =
-                format!("table | ratio to {yardstick} | ratio of medians | {ratio}{facts} | library µs | median | {yardstick} µs | median{times}");
-            println!("| {head} |\n{}|", "|---".repeat(head.split('|').count()));
-            rows.iter().for_each(|row| println!("| {} |", row.cells().join(" | ")));
-        }
-    }
-
-    fn rows(&self) -> impl Iterator<Item = &Row> {
-        self.groups.iter().flat_map(|(_, rows)| rows)
-    }
-
-    fn named(&self, row: &Row) -> String {
-        format!("{} ({}: {}, {}: {})", row.name, self.facts[0], row.facts[0], self.facts[1], row.facts[1])
-    }
-
-    /// The range of the ratios to each yardstick, and the table with the largest: over all tables, and over those on which the call is long.
-    fn print_ratios(&self) {
-        let net = format!("{}, net of reading", self.same_method);
-        let ratios: [(&str, fn(&Row) -> Option<f64>); 2] =
-            [(self.yardstick, |row| Some(row.ratio())), (&net, |row| row.net.as_ref().map(Net::ratio))];
-        for (yardstick, ratio) in ratios {
-            for (tables, least_time) in [("all".to_string(), 0.0), (format!("{LONG} µs or more"), LONG)] {
-                let rows = self.rows().filter(|row| row.ours.smallest >= least_time);
-                let mut found: Vec<(f64, &Row)> = rows.filter_map(|row| Some((ratio(row)?, row))).collect();
-                found.sort_by(|a, b| a.0.total_cmp(&b.0));
-                let (Some((least, _)), Some((largest, worst))) = (found.first(), found.last()) else { continue };
-                let range = [*least, *largest].map(digits);
-                let worst = self.named(worst);
-                println!("| `{}` / {yardstick} | {tables}: {} | {} | **{}** | {worst} |", self.library, found.len(), range[0], range[1]);
-            }
-        }
-    }
-
-    fn print_longest(&self) {
-        let longest = self.rows().max_by(|a, b| a.ours.smallest.total_cmp(&b.ours.smallest)).unwrap();
-        println!("| `{}` | {} | {} |", self.library, digits(longest.ours.smallest), self.named(longest));
     }
 }
 
-fn grouped(number: usize) -> String {
-    if number < 1_000 {
-        return number.to_string();
-    }
-    format!("{},{:03}", grouped(number / 1_000), number % 1_000)
-}
-
-/// Three digits, or all before the point.
-fn digits(number: f64) -> String {
-    match number {
-        n if n < 9.995 => format!("{n:.2}"),
-        n if n < 99.95 => format!("{n:.1}"),
-        n => grouped(n.round() as usize),
-    }
+fn number<T>(done: Result<T, u32>) -> u32 {
+    done.err().unwrap_or(0)
 }
 
 fn main() {
@@ -612,39 +557,28 @@ fn main() {
     let processors = std::thread::available_parallelism().map_or(0, usize::from);
     let buffers = &mut Buffers::new();
 
-    let mut verdict = Section::new("Verdict", "yotselina_verdict", ["residue.rs", "equations.rs"], ["verdict", "u"]);
-    for (title, tables) in verdict_tables() {
-        let rows = tables.into_iter().map(|(name, split, table)| verdict_row(&name, split, table, repetitions, buffers));
-        verdict.groups.push((title, rows.collect()));
-    }
-    let mut translation = Section::new("Translation", "yotselina_translate", ["search.rs", ""], ["codes read", "codes written"]);
-    for (title, rows) in translations() {
-        let rows = rows.into_iter().map(|(name, table, word)| translation_row(name, table, &word, repetitions, buffers));
-        translation.groups.push((title, rows.collect()));
-    }
-    let mut test = Section::new("Word test", "yotselina_accepts", ["accepts.rs"; 2], ["codes read, written", "answer"]);
-    for (title, rows) in questions() {
-        test.groups.push((title, rows.into_iter().map(|question| question_row(question, repetitions, buffers)).collect()));
-    }
-    let mut series = Section::new("Join", "yotselina_join", ["join.rs"; 2], ["states", "lines"]);
-    for (title, rows) in joins() {
-        let rows = rows.into_iter().map(|(name, first, second)| join_row(name, [first, second], repetitions, buffers));
-        series.groups.push((title, rows.collect()));
-    }
-    let append = edit_section("yotselina_append", "Appending", appends(), repetitions, buffers);
-    let remove = edit_section("yotselina_remove", "Removing", removals(), repetitions, buffers);
-    let mut reading = Section::new("Reading", "yotselina_check", ["plain.rs", ""], ["bytes", "lines"]);
-    let files = [("one state, no lines", one_state()), ("D", d([5, 6])), ("dense, 32 states, 8 inputs", dense(32, 8))];
-    reading.groups.push(("The file alone", files.map(|(name, table)| reading_row(name, table, repetitions)).into()));
-
+    let sections = [
+        verdict_section(repetitions, buffers),
+        translation_section(repetitions, buffers),
+        question_section(repetitions, buffers),
+        join_section(repetitions),
+        edit_section("Appending", "yotselina_append", appends(), repetitions),
+        edit_section("Removing", "yotselina_remove", removals(), repetitions),
+        useful_section(repetitions, buffers),
+        look_section(repetitions, buffers),
+        write_section(repetitions, buffers),
+        read_section(repetitions),
+        check_section(repetitions),
+    ];
     println!("# Figures\n");
     println!("One run of `bench/run`. Repetitions: {repetitions}; {}; processors: {processors}; load at the start: {load}.\n", arguments[2]);
-    println!("| library / yardstick | tables, by the library's time | smallest ratio | largest ratio | worst table by ratio |");
-    println!("|---|---|---|---|---|");
-    let sections = [verdict, translation, test, series, append, remove, reading];
+    println!("| library / yardstick | tables, by the library's time | smallest ratio | largest ratio | wanted at most | tables above | worst table by ratio |");
+    println!("|---|---|---|---|---|---|---|");
     sections.iter().for_each(Section::print_ratios);
-    println!("\n| library | longest µs | worst table by time |\n|---|---|---|");
-    sections.iter().for_each(Section::print_longest);
+    println!("\n| library | shortest µs | on | longest µs | on |\n|---|---|---|---|---|");
+    sections.iter().for_each(Section::print_times);
+    println!("\n## Above what is wanted\n\n| library / yardstick | table | ratio | wanted at most | floor / yardstick |\n|---|---|---|---|---|");
+    sections.iter().for_each(Section::print_missed);
     sections.iter().for_each(Section::print);
     print_memory(buffers);
 }

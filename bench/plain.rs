@@ -1,4 +1,17 @@
-//! Reads a table file in plain Rust, for all yardsticks. The file must be valid: nothing is checked.
+//! Reads a table in plain Rust, for all yardsticks: held, or a file; and writes the file of a held one. A table must be valid: nothing is checked.
+
+/// The places of a held table (include/yotselina.h).
+pub const HELD: usize = 3_171;
+pub const STATES: usize = 32;
+pub const STARTS_AT: usize = 1;
+pub const FINALS_AT: usize = 33;
+pub const USEFUL_AT: usize = 65;
+pub const COUNT_AT: usize = 97;
+pub const LINES_AT: usize = 99;
+pub const LINE: usize = 12;
+
+/// The bytes of a held table.
+pub type Held = [u8; HELD];
 
 pub struct Transition {
     pub source: usize,
@@ -32,6 +45,28 @@ impl Transducer {
     }
 }
 
+/// How many lines a held table has.
+pub fn line_count(held: &Held) -> usize {
+    held[COUNT_AT] as usize + 256 * held[COUNT_AT + 1] as usize
+}
+
+/// The lines of a held table, as many as it counts.
+pub fn lines(held: &Held) -> impl Iterator<Item = &[u8; LINE]> {
+    held[LINES_AT..].as_chunks().0.iter().take(line_count(held))
+}
+
+pub fn read(held: &Held) -> Transducer {
+    let states = |from: usize| (0..STATES).filter(|state| held[from + state] == 1).collect();
+    let transition = |&[source, target, input, count, codes @ ..]: &[u8; LINE]| Transition {
+        source: source as usize,
+        target: target as usize,
+        input,
+        codes,
+        count: count as usize,
+    };
+    Transducer { starts: states(STARTS_AT), finals: states(FINALS_AT), transitions: lines(held).map(transition).collect(), states: held[0] as usize }
+}
+
 struct Reader<'a>(&'a [u8]);
 
 impl Reader<'_> {
@@ -61,7 +96,7 @@ impl Reader<'_> {
     }
 }
 
-pub fn read(file: &[u8]) -> Transducer {
+pub fn read_file(file: &[u8]) -> Transducer {
     let mut reader = Reader(file);
     let [states, starts, finals, transitions] = reader.record(|fields| [(); 4].map(|()| fields.number()));
     Transducer {
@@ -70,4 +105,26 @@ pub fn read(file: &[u8]) -> Transducer {
         transitions: (0..transitions).map(|_| reader.record(Reader::transition)).collect(),
         states,
     }
+}
+
+/// The file of a held table.
+pub fn write(held: &Held) -> Vec<u8> {
+    let Transducer { starts, finals, transitions, states } = read(held);
+    let mut text = Vec::with_capacity(18 + 6 * (starts.len() + finals.len()) + 50 * transitions.len());
+    put(&mut text, b'T', [states, starts.len(), finals.len(), transitions.len()]);
+    starts.iter().for_each(|&state| put(&mut text, b'S', [state]));
+    finals.iter().for_each(|&state| put(&mut text, b'F', [state]));
+    for line in &transitions {
+        let numbers = [line.source, line.target, line.input as usize, line.count];
+        put(&mut text, b'L', numbers.into_iter().chain(line.output().iter().map(|&code| code as usize)));
+    }
+    text
+}
+
+/// Appends a record; its numbers have three digits at most.
+fn put(text: &mut Vec<u8>, letter: u8, numbers: impl IntoIterator<Item = usize>) {
+    let digit = |number: usize, place: usize| if number >= place || place == 1 { b'0' + (number / place % 10) as u8 } else { b' ' };
+    text.push(letter);
+    numbers.into_iter().for_each(|number| text.extend([b' ', digit(number, 100), digit(number, 10), digit(number, 1)]));
+    text.push(b'\n');
 }

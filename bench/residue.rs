@@ -1,6 +1,6 @@
 //! The first yardstick of the verdict: the functionality test of document 000 (theorem 3.23, corollary 3.24) in plain Rust. It shows no witness.
 
-use crate::plain::{read, Transducer, Transition};
+use crate::plain::{read, Held, Transducer, Transition};
 
 /// What one side of a pair has written more than the other: the unmatched end, and whether the left side wrote it.
 #[derive(Clone)]
@@ -108,9 +108,9 @@ fn functional(transducer: &Transducer, steps: &Steps, useful: &[Vec<bool>]) -> b
     pairs(&transducer.finals).all(|(p, q)| residues[p][q].as_ref().is_none_or(|residue| residue.unmatched.is_empty()))
 }
 
-/// Whether the table of a valid file is split, and u.
-pub fn decide(file: &[u8]) -> (bool, usize) {
-    let transducer = read(file);
+/// Whether a held table is split, and u.
+pub fn decide(held: &Held) -> (bool, usize) {
+    let transducer = read(held);
     let steps = Steps::forward(&transducer);
     let begun = reached(&steps, &transducer.starts, |_, _| true);
     let useful = reached(&Steps::backward(&transducer), &transducer.finals, |p, q| begun[p][q]);

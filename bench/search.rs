@@ -1,10 +1,10 @@
 //! The yardstick of the translator: a breadth-first search over positions in the word and states, in plain Rust.
 
-use crate::plain::{read, Transition};
+use crate::plain::{read, Held, Transition};
 
-/// The output of an accepting path that reads the word, by the table of a valid file; None where no path does.
-pub fn translate(file: &[u8], word: &[u8]) -> Option<Vec<u8>> {
-    let transducer = read(file);
+/// The output of an accepting path that reads the word, by a held table; None where no path does.
+pub fn translate(held: &Held, word: &[u8]) -> Option<Vec<u8>> {
+    let transducer = read(held);
     let (states, leaving) = (transducer.states, transducer.index(|transition| transition.source));
     let mut is_final = vec![false; states];
     transducer.finals.iter().for_each(|&state| is_final[state] = true);

@@ -47,36 +47,38 @@ def check(library, options, content):
 
 
 def verdict(library, options, content):
-    useful, witness = library.verdict(content)
+    useful, witness = library.verdict(library.read(content))
     if witness is None:
         return DONE, [f"single: every input word has one output at most (u = {useful:,})"]
     difference = library.difference(witness.output_x, witness.output_y)
     return SPLIT, words.split(table.parse(content), useful, witness, difference, options.all)
 
 
-def note_split(library, options, content):
+def note_split(library, options, held):
     """Says on standard error where the table is split."""
-    if library.verdict(content)[1] is not None:
+    if library.verdict(held)[1] is not None:
         complain(f"note: {options.file} is split, so another unit may write another output for this word")
 
 
 def translate(library, options, content):
-    output = library.translate(content, options.codes)
-    note_split(library, options, content)
+    held = library.read(content)
+    output = library.translate(held, options.codes)
+    note_split(library, options, held)
     return DONE, [" ".join(map(str, output))]
 
 
 def accepts(library, options, content):
-    yes = library.accepts(content, options.input, options.output)
+    held = library.read(content)
+    yes = library.accepts(held, options.input, options.output)
     if yes:
-        note_split(library, options, content)
+        note_split(library, options, held)
     return YES if yes else NO, [words.accepted(yes, options.input, options.output)]
 
 
 def useful(library, options, content):
-    flags = library.useful_states(content)
-    count, partners = library.useful_pairs(content)
-    return DONE, words.useful(table.parse(content), flags, count, partners)
+    held = library.read(content)
+    count, partners = library.useful_pairs(held)
+    return DONE, words.useful(table.parse(content), library.useful_states(held), count, partners)
 
 
 def keep_apart(out, what, *files):
@@ -87,9 +89,9 @@ def keep_apart(out, what, *files):
 
 def draw(library, options, content):
     keep_apart(options.out, "picture", options.file)
-    count, witness = library.verdict(content)
-    read = table.parse(content)
-    text = picture.graph(options.file, read, library.useful_states(content), count, witness)
+    held, read = library.read(content), table.parse(content)
+    count, witness = library.verdict(held)
+    text = picture.graph(options.file, read, library.useful_states(held), count, witness)
     write_file(options.out, picture.rendered(text, options.out.rpartition(".")[2]))
     said = "split, path A blue, path B orange" if witness else "single"
     return DONE, [f"{options.out}: drawn: {words.counted(read.states, 'state')}, {words.counted(len(read.lines), 'line')}, {said}"]
@@ -97,7 +99,7 @@ def draw(library, options, content):
 
 def join(library, options, first, second):
     keep_apart(options.out, "joined table", options.first, options.second)
-    content = library.join(first, second)
+    content = library.write(library.join(library.read(first), library.read(second)))
     write_file(options.out, content)
     return DONE, words.joined((options.first, options.second, options.out), content, table.parse(content))
 

@@ -17,6 +17,7 @@ VARIABLE = "YOTSELINA_LIBRARY"
 
 # The sizes of include/yotselina.h, under its names.
 STATES = 32
+TABLE = 3_171
 FILE = 13_202
 OUTPUT = 65_528
 ACCEPTS_INPUT = 63
@@ -29,7 +30,7 @@ TRANSLATE_ANSWER = 1
 ACCEPTS_ANSWER = 1
 PAIRS_ANSWER = 1
 DIFFERENCE_ANSWER = 2
-JOIN_ANSWER = 1
+WRITE_ANSWER = 1
 LEVEL, FIRST_AHEAD, SECOND_AHEAD, CLASH = range(4)
 
 
@@ -95,7 +96,9 @@ def lent(kind, places):
 
 
 class Library:
-    """The calls of the header, over bytes; a refusal is raised."""
+    """The calls of the header: on the bytes of a file, and on tables that are held (`read`, `join`); a refusal is raised."""
+
+    VERSION = 0x00010000  # of the header
 
     def __init__(self, named=None):
         path = find(named)
@@ -105,61 +108,83 @@ class Library:
             raise Failed(f"the library cannot be loaded: {error}") from error
         self.path = path
 
-    def call(self, name, *lists):
-        """One call, each list as a pointer and its number of places."""
+    def function(self, name):
         try:
             function = getattr(self.loaded, f"yotselina_{name}")
         except AttributeError as error:
             raise Failed(f"the library {self.path} has no call yotselina_{name}: make it again, or name another") from error
         function.restype = ctypes.c_uint32
-        returned = function(*(argument for places in lists for argument in (places, ctypes.c_size_t(len(places)))))
+        return function
+
+    def call(self, name, *lists, file=None):
+        """One call, each list as a pointer and its number of places; a refusal knows the file whose bytes are lent."""
+        returned = self.function(name)(*(argument for places in lists for argument in (places, ctypes.c_size_t(len(places)))))
         if returned:
-            raise Refused(returned & 0xffff, returned >> 16 & 0x7fff, returned >> 31)
+            raise Refused(returned & 0xffff, returned >> 16, file)
 
     def check(self, file):
-        self.call("check", lent(ctypes.c_uint8, file))
+        self.call("check", lent(ctypes.c_uint8, file), file=file)
 
-    def verdict(self, file):
+    def must_fit(self):
+        """What a held table is depends on the version: the header's major number, and all of its calls."""
+        version = self.function("version")()
+        if version >> 16 != self.VERSION >> 16 or version < self.VERSION:
+            raise Failed(f"the library {self.path} is of another version, {version:#010x}: make it again, or name another")
+
+    def read(self, file):
+        """The table of a file, held."""
+        self.must_fit()
+        table = lent(ctypes.c_uint8, TABLE)
+        self.call("read", lent(ctypes.c_uint8, file), table, file=file)
+        return table
+
+    def write(self, table):
+        """The bytes of the table's file."""
+        out, answer = lent(ctypes.c_uint8, FILE), lent(ctypes.c_uint64, WRITE_ANSWER)
+        self.call("write", table, out, answer)
+        return bytes(out[:answer[0]])
+
+    def verdict(self, table):
         """u, and a Witness where the table is split, else None."""
         lists = (lent(ctypes.c_uint8, WITNESS), lent(ctypes.c_uint16, WITNESS), lent(ctypes.c_uint16, WITNESS),
                  lent(ctypes.c_uint8, WITNESS_OUTPUT), lent(ctypes.c_uint8, WITNESS_OUTPUT))
         answer = lent(ctypes.c_uint64, VERDICT_ANSWER)
-        self.call("verdict", lent(ctypes.c_uint8, file), *lists, answer)
+        self.call("verdict", table, *lists, answer)
         split, useful, *counts = answer
         return useful, Witness(*(tuple(places[:count]) for places, count in zip(lists, counts))) if split else None
 
-    def translate(self, file, word):
+    def translate(self, table, word):
         """The output's codes."""
         output, answer = lent(ctypes.c_uint8, OUTPUT), lent(ctypes.c_uint64, TRANSLATE_ANSWER)
-        self.call("translate", lent(ctypes.c_uint8, file), lent(ctypes.c_uint8, word), output, answer)
+        self.call("translate", table, lent(ctypes.c_uint8, word), output, answer)
         return tuple(output[:answer[0]])
 
-    def accepts(self, file, word, output):
+    def accepts(self, table, word, output):
         """Whether an accepting path reads the word and writes the output."""
         answer = lent(ctypes.c_uint64, ACCEPTS_ANSWER)
-        self.call("accepts", lent(ctypes.c_uint8, file), lent(ctypes.c_uint8, word), lent(ctypes.c_uint8, output), answer)
+        self.call("accepts", table, lent(ctypes.c_uint8, word), lent(ctypes.c_uint8, output), answer)
         return answer[0] == 1
 
-    def useful_states(self, file):
+    def useful_states(self, table):
         """A flag for each of the 32 states."""
         flags = lent(ctypes.c_uint8, STATES)
-        self.call("useful_states", lent(ctypes.c_uint8, file), flags)
+        self.call("useful_states", table, flags)
         return list(flags)
 
-    def useful_pairs(self, file):
+    def useful_pairs(self, table):
         """u, and for each state p the states q for which (p, q) is useful."""
         flags, answer = lent(ctypes.c_uint8, PAIRS), lent(ctypes.c_uint64, PAIRS_ANSWER)
-        self.call("useful_pairs", lent(ctypes.c_uint8, file), flags, answer)
+        self.call("useful_pairs", table, flags, answer)
         return answer[0], [[q for q in range(STATES) if flags[STATES * p + q]] for p in range(STATES)]
+
+    def join(self, first, second):
+        """The joined table, held."""
+        result = lent(ctypes.c_uint8, TABLE)
+        self.call("join", first, second, result)
+        return result
 
     def difference(self, x, y):
         """The kind, and how many codes the two have in common at the beginning."""
         answer = lent(ctypes.c_uint64, DIFFERENCE_ANSWER)
         self.call("difference", lent(ctypes.c_uint8, x), lent(ctypes.c_uint8, y), answer)
         return answer[0], answer[1]
-
-    def join(self, first, second):
-        """The bytes of the joined table's file."""
-        out, answer = lent(ctypes.c_uint8, FILE), lent(ctypes.c_uint64, JOIN_ANSWER)
-        self.call("join", lent(ctypes.c_uint8, first), lent(ctypes.c_uint8, second), out, answer)
-        return bytes(out[:answer[0]])

@@ -10,13 +10,13 @@ class Failed(Exception):
 
 
 class Refused(Exception):
-    """A refusal of the library: its number, the record of the file where it is the file's, and whether that is the second of two files."""
+    """A refusal of the library: its number; of a call on a file also the record and the file's bytes, else None."""
 
-    def __init__(self, number, record, second):
-        super().__init__(number, record, second)
+    def __init__(self, number, record, file):
+        super().__init__(number, record, file)
         self.number = number
         self.record = record
-        self.second = second
+        self.file = file
 
 
 class Words(NamedTuple):
@@ -34,12 +34,13 @@ WORDS = {
              "n is 1 to 32, a state 0 to n - 1, k at most 256, an input 0 to 250, a count of outputs 0 to 8, an output 1 to 250"),
     5: Words(True, "the states of `S` or `F` records do not rise", "sort them, each once"),
     6: Words(True, "bytes follow the last record", "remove them, or correct the counts of `T`"),
-    7: Words(False, "a buffer is too short: for the result (writer, translator, join, edits); else (verdict, useful states, the look, useful pairs, a "
-             "line to append) below its size, whatever the outcome would be",
+    7: Words(False, "a buffer is too short: for the result (writer, translator); else (verdict, useful states, the look, useful pairs) below its size, "
+             "whatever the outcome would be",
              "lend a longer one: 13,202 bytes hold any file, 65,528 places any output; the verdict takes 2,047 for the word and each path, "
-             "16,376 for each output; useful states and the look take 32 flags, useful pairs 1,024; a line has 12"),
-    8: Words(False, "a table value breaks a rule of document 01, or keeps another set than that of its useful states",
-             "make tables by reading files, by joining and by editing: each call that makes a table keeps the right set"),
+             "16,376 for each output; useful states and the look take 32 flags, useful pairs 1,024"),
+    8: Words(False, "a held table breaks a rule of document 01, has a flag other than 0 and 1, or keeps another set than that of its useful states",
+             "make held tables by reading files, by joining and by editing only, and lend all of their bytes as they were written: each of these calls "
+             "writes a table that is taken, with the right set; if its memory was overwritten, read the file again"),
     9: Words(False, "the input word has over 255 codes",
              "use a shorter word; its parts are other words, which the table may not read or may translate otherwise"),
     10: Words(False, "an input code is 0 or over 250", "codes are 1 to 250"),
@@ -59,7 +60,8 @@ WORDS = {
     19: Words(False, "appending: the line breaks a range, or holds anything but 0 beyond its count of outputs",
               "a state is 0 to n - 1, the input 0 to 250, the count of outputs 0 to 8, an output 1 to 250; fill up the eight places of the "
               "outputs with 0"),
-    100: Words(False, "the library's list `answer` is too short", "lend as many places as include/yotselina.h names for the call"),
+    100: Words(False, "a list without which the call cannot begin is too short: `answer`, a held table, or the line to append",
+               "lend as many places as include/yotselina.h names: 3,171 for a held table, 12 for a line, for an answer those of the call"),
 }
 UNKNOWN = Words(False, "a number that this tool does not know", "see docs/MANUAL.md of the library's own version")
 MORE_THAN_ONE_CODE = 15
@@ -85,7 +87,8 @@ def in_words(refused, names, contents):
     """What a refusal means: number, record, the file's line with its text, cause and cure. Each record is one line, so record 0 is line 1. Of two
     files the one is named that it is about, or both."""
     words, said = WORDS.get(refused.number, UNKNOWN), f"refused with number {refused.number}"
-    name, content = (names[-1], contents[-1]) if refused.second else (names[0], contents[0])
+    place = 0 if refused.file is None else contents.index(refused.file)
+    name, content = names[place], contents[place]
     line = refused.record + 1 if words.of_file else long_line(content) if refused.number == MORE_THAN_ONE_CODE else None
     if line:
         record = f", record {refused.record}" if words.of_file else ""

@@ -295,7 +295,7 @@ def try_fake(tool, findings):
         findings.check(GROUP, faults, b"", f"number {number} from a fake library")
         findings.count("desk tool, refusals by a fake library", number)
     run = tool.about(named.P_FILE, "verdict", "--library", str(fake))
-    findings.check(GROUP, faults_of_run(run, 2, "", "has no call yotselina_verdict"), b"", "a library without the call")
+    findings.check(GROUP, faults_of_run(run, 2, "", "has no call yotselina_version"), b"", "a library without the call")
 
 
 # --- answers -----------------------------------------------------------------------------------------------------------

@@ -1,12 +1,14 @@
-"""What others build on the library with: the header's sizes, its promise about the stack, and the examples (the part linked has the header itself)."""
+"""What others build on the library with: the header's sizes, its promise about the stack, the examples and the files of make-library (the part linked has
+the header itself)."""
 
 import re
 import shutil
 import sys
 import tempfile
+from itertools import product
 from pathlib import Path
 
-from means import generate, named
+from means import generate, lines, named, reference
 from means.compare import as_codes, expected_translation, expected_verdict, faults_of_output, randomness
 from means.deskanswers import KINDS, faults_of_run, faults_where, numbers
 from means.library import STRICT, compile_c, find_archive
@@ -14,7 +16,8 @@ from means.listing import Refusal
 from means.programs import ROOT, run_program
 from means.settings import share
 from means.stack import LISTS, run_stack, stack_of_lists
-from means.transducer import table_file
+from means.tools import debian
+from means.transducer import MAX_TRANSITIONS, places_of, table_file
 
 sys.path.append(str(ROOT / "cli"))
 
@@ -117,9 +120,38 @@ def questions():
         yield table_file(transducer), generate.input_words(random, transducer)[0]
 
 
+def jobs_on(transducer, line):
+    """Rows of jobs; what each prints behind the verdict, by the reference; how it complains where an edit is refused."""
+    count, append = len(transducer.transitions), ("append", line.source, line.target, line.input, *line.output)
+    yield ("append", 0, transducer.states, 1), "", "append: refused with number 19, record 0\n"
+    if count == MAX_TRANSITIONS:
+        yield append, "", "append: refused with number 17, record 0\n"
+        return
+    edited = reference.append(transducer, places_of(line))
+    useful = "".join(f" {state}" for state in sorted(generate.useful_states(edited)))
+    shown = f"useful states:{useful}\n{table_file(edited).decode()}{table_file(transducer).decode()}"
+    yield (*append, ",", "look", ",", "write", ",", "remove", count, ",", "write"), shown, ""
+    yield ("remove", count), "", "remove: refused with number 18, record 0\n"
+
+
+def try_jobs(built, folder, findings):
+    """Edits, looks and files of a table where it is held: a line that is appended and removed leaves the file as it was."""
+    for index in range(share(TABLES)):
+        random = randomness("examples, jobs", index)
+        transducer, _ = generate.KINDS[KINDS[index % len(KINDS)]][1](random)
+        content = table_file(transducer)
+        (folder / "table").write_bytes(content)
+        status, says, _ = expected_of(content, b"")
+        for (jobs, shown, complaint), (name, program) in product(jobs_on(transducer, lines.good_line(random, transducer)), built):
+            run = run_program(program, folder / "table", *map(str, jobs))
+            faults = faults_of_run(run, 2 if complaint else status, says, complaint)
+            findings.check("examples", faults + faults_where((run[1].endswith(f"\n{shown}"), f"prints {run[1]}")), content, f"{name}, {jobs}")
+
+
 def try_examples(folder, findings):
     """Each example by the reference, and both must print the same; what they cannot do ends with status 2 and a complaint."""
     built = built_examples(folder, findings)
+    try_jobs(built, folder, findings)
     for content, word in questions():
         (folder / "table").write_bytes(content)
         runs = [(name, run_program(program, folder / "table", *map(str, word))) for name, program in built]
@@ -132,6 +164,21 @@ def try_examples(folder, findings):
             findings.check("examples", faults_where((status == 2 and complaint, f"exit status {status}")), b"", f"{name}: {words}")
 
 
+def try_made(folder, findings):
+    """The files of make-library: the shared object has the header's calls and nothing else, and the C example runs with it, by the name it asks for."""
+    made = run_program("env", f"ARCHIVE={find_archive()}", ROOT / "make-library", folder / "lib")
+    shared, program = folder / "lib" / "libyotselina.so", folder / "example-shared"
+    findings.check("make-library", faults_of_run(made, 0, str(shared)), b"", "made")
+    listed = run_program(debian("nm", "binutils"), "-D", "-P", "--defined-only", shared)[1]
+    declared = set(re.findall(r"^YOTSELINA_CALL (\w+)\(", text_of("include", "yotselina.h"), re.MULTILINE))
+    found = {line.split()[0] for line in listed.splitlines()}
+    findings.check("make-library", faults_where((found == declared, f"it has {sorted(found)}, declared are {sorted(declared)}")), b"", "calls")
+    complaint = compile_c("gcc", "-std=c99", *STRICT, "-o", program, ROOT / "examples" / "table.c", f"-L{shared.parent}", "-lyotselina")
+    shared.unlink()  # a program asks for the name with the version
+    run = run_program("env", f"LD_LIBRARY_PATH={shared.parent}", program, ROOT / "tables" / "single", "1", "2")
+    findings.check("make-library", [complaint] if complaint else faults_of_run(run, 0, "\noutput: 5 6\n"), b"", "the C example with the shared object")
+
+
 def try_manual(_, findings):
     """The manual's pieces of C and Rust are pieces of the examples."""
     for language, example in (("c", "table.c"), ("rust", "table.rs")):
@@ -142,5 +189,5 @@ def try_manual(_, findings):
 
 def run(findings):
     with tempfile.TemporaryDirectory() as folder:
-        for part in (try_sizes, try_stack, try_examples, try_manual):
+        for part in (try_sizes, try_stack, try_examples, try_made, try_manual):
             part(Path(folder), findings)
