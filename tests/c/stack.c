@@ -1,7 +1,7 @@
 /*
  * How much stack each call takes: it runs on a stack of its own that was painted before, and the deepest byte that lost its colour tells.
- * Prints a line for each call: its name and the bytes. The first argument is the table file; its input word is as many ones as a word may have, and
- * the output word that is tested is the beginning of what that table writes. The other two are the table files that are joined.
+ * Prints a line for each call: its name and the bytes. The first argument is the file of the table; its input word is as many ones as a word may have,
+ * and the output word that is tested is the beginning of what that table writes. The other two are the files of the tables that are joined.
  * To the first a line is appended, and its line 0 is removed.
  * Then a line for each of some differences of short and of long lists: the codes of the longer list, the kind that is answered, and the bytes.
  */
@@ -19,8 +19,9 @@
 #define LONG 1000000
 
 static unsigned char room[ROOM];
-static uint8_t file[YOTSELINA_FILE + 1], first[YOTSELINA_FILE + 1], second[YOTSELINA_FILE + 1];
-static size_t length, first_length, second_length;
+static uint8_t file[YOTSELINA_FILE + 1], table[YOTSELINA_TABLE], edited[YOTSELINA_TABLE];
+static uint8_t first[YOTSELINA_TABLE], second[YOTSELINA_TABLE], result[YOTSELINA_TABLE];
+static size_t length;
 static uint8_t word[YOTSELINA_WITNESS], flags[YOTSELINA_PAIRS], out[YOTSELINA_FILE];
 static uint16_t path_a[YOTSELINA_WITNESS], path_b[YOTSELINA_WITNESS];
 static uint8_t output_x[YOTSELINA_WITNESS_OUTPUT], output_y[YOTSELINA_WITNESS_OUTPUT], output[YOTSELINA_OUTPUT], input[YOTSELINA_WORD];
@@ -33,26 +34,32 @@ static size_t itself; /* what making a call takes */
 static ucontext_t here, there;
 
 static void nothing(void) { returned = 0; }
+static void version(void) { returned = yotselina_version() != YOTSELINA_VERSION; }
 static void check(void) { returned = yotselina_check(file, length); }
+static void read_file(void) { returned = yotselina_read(file, length, table, sizeof table); }
+static void write_file(void) { returned = yotselina_write(table, sizeof table, out, sizeof out, answer, YOTSELINA_WRITE_ANSWER); }
 static void verdict(void)
 {
-    returned = yotselina_verdict(file, length, word, sizeof word, path_a, YOTSELINA_WITNESS, path_b, YOTSELINA_WITNESS,
+    returned = yotselina_verdict(table, sizeof table, word, sizeof word, path_a, YOTSELINA_WITNESS, path_b, YOTSELINA_WITNESS,
                                  output_x, sizeof output_x, output_y, sizeof output_y, answer, YOTSELINA_VERDICT_ANSWER);
 }
 static void translate(void)
 {
-    returned = yotselina_translate(file, length, input, sizeof input, output, sizeof output, answer, YOTSELINA_TRANSLATE_ANSWER);
+    returned = yotselina_translate(table, sizeof table, input, sizeof input, output, sizeof output, answer, YOTSELINA_TRANSLATE_ANSWER);
 }
 static void accepts(void)
 {
-    returned = yotselina_accepts(file, length, input, YOTSELINA_ACCEPTS_INPUT, tested, sizeof tested, answer, YOTSELINA_ACCEPTS_ANSWER);
+    returned = yotselina_accepts(table, sizeof table, input, YOTSELINA_ACCEPTS_INPUT, tested, sizeof tested, answer, YOTSELINA_ACCEPTS_ANSWER);
 }
-static void useful_states(void) { returned = yotselina_useful_states(file, length, flags, sizeof flags); }
-static void look(void) { returned = yotselina_look(file, length, flags, sizeof flags); }
+static void useful_states(void) { returned = yotselina_useful_states(table, sizeof table, flags, sizeof flags); }
+static void look(void) { returned = yotselina_look(table, sizeof table, flags, sizeof flags); }
 static void useful_pairs(void)
 {
-    returned = yotselina_useful_pairs(file, length, flags, sizeof flags, answer, YOTSELINA_PAIRS_ANSWER);
+    returned = yotselina_useful_pairs(table, sizeof table, flags, sizeof flags, answer, YOTSELINA_PAIRS_ANSWER);
 }
+static void append(void) { returned = yotselina_append(edited, sizeof edited, line, sizeof line); }
+static void remove_line(void) { returned = yotselina_remove(edited, sizeof edited, 0); }
+static void join(void) { returned = yotselina_join(first, sizeof first, second, sizeof second, result, sizeof result); }
 static void difference(void)
 {
     returned = yotselina_difference(file, length, file, length, answer, YOTSELINA_DIFFERENCE_ANSWER);
@@ -61,16 +68,6 @@ static void difference_of_lists(void)
 {
     returned = yotselina_difference(list_x, length_x, list_y, length_y, answer, YOTSELINA_DIFFERENCE_ANSWER);
 }
-static void rewrite(void) { returned = yotselina_write(file, length, out, sizeof out, answer, YOTSELINA_WRITE_ANSWER); }
-static void join(void)
-{
-    returned = yotselina_join(first, first_length, second, second_length, out, sizeof out, answer, YOTSELINA_JOIN_ANSWER);
-}
-static void append(void)
-{
-    returned = yotselina_append(file, length, line, sizeof line, out, sizeof out, answer, YOTSELINA_EDIT_ANSWER);
-}
-static void remove_line(void) { returned = yotselina_remove(file, length, 0, out, sizeof out, answer, YOTSELINA_EDIT_ANSWER); }
 
 /* The bytes of stack that a call takes. */
 static size_t deepest(void (*call)(void))
@@ -93,7 +90,8 @@ static size_t taken(const char *name, void (*call)(void))
 {
     size_t bytes = deepest(call);
     if (returned != 0) {
-        fprintf(stderr, "%s: refused with number %u, record %u\n", name, (unsigned)YOTSELINA_NUMBER(returned), (unsigned)YOTSELINA_RECORD(returned));
+        fprintf(stderr, "%s: refused with number %u, record %u: %s\n", name, (unsigned)YOTSELINA_NUMBER(returned), (unsigned)YOTSELINA_RECORD(returned),
+                yotselina_text(returned));
         exit(2);
     }
     return bytes - itself;
@@ -131,18 +129,31 @@ static size_t content(const char *name, uint8_t *list)
     return bytes;
 }
 
+/* The table of a file that is joined. */
+static void hold(const char *name, uint8_t *held)
+{
+    length = content(name, file);
+    if (yotselina_read(file, length, held, YOTSELINA_TABLE)) {
+        fprintf(stderr, "%s: no table\n", name);
+        exit(2);
+    }
+}
+
 int main(int count, char **arguments)
 {
     if (count != 4) {
         fprintf(stderr, "usage: stack FILE FIRST SECOND\n");
         return 2;
     }
+    hold(arguments[2], first);
+    hold(arguments[3], second);
     length = content(arguments[1], file);
-    first_length = content(arguments[2], first);
-    second_length = content(arguments[3], second);
     memset(input, 1, sizeof input);
     itself = deepest(nothing);
+    measure("yotselina_version", version);
     measure("yotselina_check", check);
+    measure("yotselina_read", read_file);
+    measure("yotselina_write", write_file);
     measure("yotselina_verdict", verdict);
     measure("yotselina_translate", translate);
     memcpy(tested, output, sizeof tested);
@@ -150,11 +161,11 @@ int main(int count, char **arguments)
     measure("yotselina_useful_states", useful_states);
     measure("yotselina_look", look);
     measure("yotselina_useful_pairs", useful_pairs);
-    measure("yotselina_difference", difference);
-    measure("yotselina_write", rewrite);
-    measure("yotselina_join", join);
+    memcpy(edited, table, sizeof edited);
     measure("yotselina_append", append);
     measure("yotselina_remove", remove_line);
+    measure("yotselina_join", join);
+    measure("yotselina_difference", difference);
     measure_lists(SHORT);
     measure_lists(LONG);
     return 0;

@@ -1,8 +1,6 @@
 """Comparisons of the library's edits (yotselina_append, yotselina_remove): lists of them, where a table is held, with the lists of lines that they
 make, each call with what it owes (owed.py), and files that are known by hand; and of the look (yotselina_look) at each table that edits have made."""
 
-from itertools import product
-
 from means import generate, lines, named, reference
 from means.calls import TABLES, as_note, check, held_by, look_at, owes_only, same_refusal, written
 from means.compare import randomness, size_name

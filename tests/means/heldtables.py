@@ -38,12 +38,12 @@ def compare_byte(library, findings, random, held, turn):
 
 
 def compare_bytes(library, findings, name, first):
-    """Some bytes of a held table, each at several values."""
+    """Some bytes of a held table, each at several values; at the next byte the next call meets the same value."""
     random = randomness(GROUP, name, first)
     held, values = held_of(TABLES[name][0]), TABLES[name][1]
-    changes = [(at, value) for at in range(first, min(first + PIECE, HELD)) for value in {*values, (held[at] + 1) % 256} - {held[at]}]
-    for turn, change in enumerate(changes, first):
-        compare_byte(library, findings, random, lines.changed(held, *change), turn)
+    for at in range(first, min(first + PIECE, HELD)):
+        for turn, value in enumerate(sorted({*values, (held[at] + 1) % 256} - {held[at]}), at):
+            compare_byte(library, findings, random, lines.changed(held, at, value), turn)
 
 
 # --- the same table exactly when the bytes are the same --------------------------------------------------------------
