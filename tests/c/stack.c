@@ -4,16 +4,25 @@
  * and the output word that is tested is the beginning of what that table writes. The other two are the files of the tables that are joined.
  * To the first a line is appended, and its line 0 is removed.
  * Then a line for each of some differences of short and of long lists: the codes of the longer list, the kind that is answered, and the bytes.
+ * Between them, for each call that takes more than a few pages, how it ends on half of that with a guard page below: at the guard, or otherwise.
  */
 #define _XOPEN_SOURCE 700
+#define _DEFAULT_SOURCE
+#include <signal.h>
 #include <stdio.h>
 #include <stdlib.h>
 #include <string.h>
+#include <sys/mman.h>
+#include <sys/wait.h>
 #include <ucontext.h>
+#include <unistd.h>
 
 #include "yotselina.h"
 
 #define ROOM (1 << 22) /* more than two long lists */
+#define PAGE 4096
+#define FEW (4 * PAGE)
+#define AT_GUARD 42
 #define PAINT 0xa5
 #define SHORT 1000
 #define LONG 1000000
@@ -97,7 +106,55 @@ static size_t taken(const char *name, void (*call)(void))
     return bytes - itself;
 }
 
-static void measure(const char *name, void (*call)(void)) { printf("%s %lu\n", name, (unsigned long)taken(name, call)); }
+static unsigned char *guard;
+
+static void at_fault(int number, siginfo_t *fault, void *context)
+{
+    unsigned char *touched = (unsigned char *)fault->si_addr;
+    (void)number, (void)context;
+    _exit(touched >= guard && touched < guard + PAGE ? AT_GUARD : 1);
+}
+
+/* The call on a stack of so many bytes, with a guard page below it and below that memory which may be written; never returns. */
+static void on_guarded_stack(void (*call)(void), size_t bytes)
+{
+    static unsigned char handlers[1 << 16];
+    stack_t other;
+    struct sigaction action;
+    unsigned char *memory = (unsigned char *)mmap(NULL, ROOM + PAGE + bytes, PROT_READ | PROT_WRITE, MAP_PRIVATE | MAP_ANONYMOUS, -1, 0);
+    memset(&other, 0, sizeof other);
+    memset(&action, 0, sizeof action);
+    other.ss_sp = handlers;
+    other.ss_size = sizeof handlers;
+    action.sa_sigaction = at_fault;
+    action.sa_flags = SA_SIGINFO | SA_ONSTACK;
+    guard = memory + ROOM;
+    if (memory == MAP_FAILED || mprotect(guard, PAGE, PROT_NONE) || sigaltstack(&other, NULL) || sigaction(SIGSEGV, &action, NULL))
+        _exit(2);
+    getcontext(&there);
+    there.uc_stack.ss_sp = guard + PAGE;
+    there.uc_stack.ss_size = bytes;
+    there.uc_link = &here;
+    makecontext(&there, call, 0);
+    swapcontext(&here, &there);
+    _exit(3);
+}
+
+static void measure(const char *name, void (*call)(void))
+{
+    size_t bytes = taken(name, call);
+    int status;
+    pid_t child;
+    printf("%s %lu\n", name, (unsigned long)bytes);
+    fflush(stdout);
+    if (bytes < FEW)
+        return;
+    child = fork();
+    if (child == 0)
+        on_guarded_stack(call, bytes / 2 / PAGE * PAGE);
+    waitpid(child, &status, 0);
+    printf("%s on half of it ends %s\n", name, WIFEXITED(status) && WEXITSTATUS(status) == AT_GUARD ? "at the guard" : "otherwise");
+}
 
 /* Lists that are level, each of them ahead by half, and a clash at the last place. */
 static void measure_lists(size_t codes)

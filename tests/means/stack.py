@@ -21,6 +21,11 @@ def run_stack(folder, *linked):
     return (None, "", complaint) if complaint else run_program(folder / "stack", *names)
 
 
+def guarded(run):
+    """How each call of more than a few pages of stack ends where there is only half of it, and a guard page below."""
+    return dict(re.findall(r"^(\w+) on half of it ends (.*)$", run[1], re.MULTILINE))
+
+
 def stack_of_lists(run):
     """For each kind of difference the bytes of stack with short lists and with long ones; None where that was not measured."""
     lines = re.findall(r"^(\d+) codes, kind (\d+): (\d+)$", run[1], re.MULTILINE)

@@ -17,6 +17,7 @@ from means.listing import MAX_TRANSLATION, MAX_WITNESS, MAX_WITNESS_OUTPUT
 from means.namedjoins import LIMITS
 from means.owed import CLASH, FIRST_AHEAD, LEVEL, SECOND_AHEAD
 from means.refusals import numbers_of_code
+from means.stack import guarded, run_stack
 from means.tools import debian
 from means.transducer import (LINE_PLACES, MAX_CODE, MAX_FILE, MAX_STATES, MAX_TESTED_INPUT, MAX_TESTED_OUTPUT, MAX_TRANSITIONS, MAX_WORD, places_of,
                         table_file)
@@ -75,6 +76,13 @@ def check_archive(findings, archive):
     findings.check("library, archive", [f"takes {sorted(taken)}"] if taken else [], b"", "what it takes from C")
     kept = [name for name, kind in symbols if kind in "bBdDcC"]
     findings.check("library, archive", [f"keeps {kept}"] if kept else [], b"", "memory of its own")
+
+
+def check_guard(findings, folder, archive):
+    """A call with too little stack ends at a guard page below it, and writes nothing beyond."""
+    ends = guarded(run_stack(folder, archive))
+    faults = [] if set(ends.values()) == {"at the guard"} and len(ends) > 5 else [f"{ends}"]
+    findings.check("library, stack", faults, b"", "a guard page")
 
 
 # --- the program -----------------------------------------------------------------------------------------------------
@@ -230,6 +238,7 @@ def run(findings):
         folder = Path(name)
         check_header(findings, folder)
         check_archive(findings, archive)
+        check_guard(findings, folder, archive)
         given, names = write_samples(folder)
         for compiler, language, memory, tool in runs:
             program = folder / f"driver-{language}"
