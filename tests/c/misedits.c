@@ -1,167 +1,112 @@
 /*
- * Plain edits of a table file, by its records, in which one rule may be wrong, which tests/parts/faults.py puts into the library: `wrong` names the
- * rule. The file must be one that the library takes, and the answer list long enough.
+ * Plain edits of a held table in which one rule may be wrong, which tests/parts/faults.py puts into the library: `wrong` names the rule. The table must be
+ * one that the library takes.
  */
-#include <stddef.h>
-#include <stdint.h>
-#include <string.h>
+#include "held.h"
 
-#define PLACES 12
-#define OUTPUTS 4 /* the first place of an output */
+static int is(const char *wrong, const char *rule) { return !strcmp(wrong, rule); }
 
-struct record {
-    const uint8_t *at;
-    size_t length;
-};
-/* The records of a file, of which the last are its lines, and with which rule wrong they are edited. */
-struct records {
-    const char *wrong;
-    unsigned all, lines;
-    uint8_t header[18];
-    struct record each[324];
-};
+static int same(const uint8_t *line, const uint8_t *other) { return !memcmp(line, other, PLACES); }
 
-static int is(const struct records *r, const char *rule) { return !strcmp(r->wrong, rule); }
-
-static unsigned field(const uint8_t *at)
+static void insert(struct held *table, unsigned place, const uint8_t *line)
 {
-    unsigned number = 0;
-    for (int i = 0; i < 4; i++)
-        number = at[i] == ' ' ? 0 : 10 * number + (at[i] - '0');
-    return number;
+    unsigned count = count_of(table);
+    memmove(table->lines[place + 1], table->lines[place], (size_t)(count - place) * PLACES);
+    memcpy(table->lines[place], line, PLACES);
+    put_count(table, count + 1);
 }
 
-static void put_field(uint8_t *at, unsigned number)
+/* Takes a line out; what moves down leaves zeros behind. */
+static void drop(const char *wrong, struct held *table, unsigned place)
 {
-    for (unsigned i = 4, left = number; i-- > 0; left /= 10)
-        at[i] = left || i == 3 ? '0' + left % 10 : ' ';
+    unsigned last = count_of(table) - 1;
+    memmove(table->lines[place], table->lines[place + 1], (size_t)(last - place) * PLACES);
+    if (!is(wrong, "the last line is left behind the count"))
+        memset(table->lines[last], 0, PLACES);
+    put_count(table, last);
 }
 
-static struct records records_of(const char *wrong, const uint8_t *file, size_t length)
+/* What is wrong with the other parts of an edited table. */
+static void finish(const char *wrong, struct held *table)
 {
-    struct records r = {wrong, 0, field(file + 13), {0}, {{0}}};
-    for (size_t at = 0, next; at < length; at = next) {
-        for (next = at; file[next] != 10; next++)
-            ;
-        next++;
-        r.each[r.all++] = (struct record){file + at, next - at};
+    if (is(wrong, "the start states are lost"))
+        memset(table->start, 0, STATES);
+    if (is(wrong, "the final states are lost"))
+        memset(table->end, 0, STATES);
+    if (!is(wrong, "the useful states stay"))
+        work_out(table);
+    if (is(wrong, "the bytes of the count are exchanged"))
+        put_count(table, table->count[1] + 256u * table->count[0]);
+}
+
+static int good_line(const char *wrong, const struct held *table, const uint8_t *line)
+{
+    unsigned states = table->states, most = is(wrong, "input 251 is taken") ? 251 : 250, count = line[3];
+    int good = line[0] < states + is(wrong, "state n is left") && line[1] < states + is(wrong, "state n is entered") && line[2] <= most && count <= 8;
+    for (unsigned i = 0; good && i < count; i++)
+        good = (line[OUTPUTS + i] || is(wrong, "output 0 is taken")) && line[OUTPUTS + i] <= 250 + is(wrong, "output 251 is taken");
+    for (unsigned i = OUTPUTS + count; good && i < PLACES && !is(wrong, "anything may stand beyond the count"); i++)
+        good = !line[i] || (i == PLACES - 1 && is(wrong, "anything may stand in the last place"));
+    return good && !(line[PLACES] && is(wrong, "a thirteenth place is looked at"));
+}
+
+uint32_t misappend(const char *wrong, uint8_t *held, const uint8_t *line, size_t line_length)
+{
+    struct held *table = (struct held *)held;
+    unsigned count = count_of(table), most = is(wrong, "256 lines are refused") ? 255 : is(wrong, "257 lines are taken") ? 257 : 256;
+    uint8_t places[PLACES + 1] = {0};
+    if (line_length + is(wrong, "eleven places are taken") < PLACES)
+        return 100;
+    memcpy(places, line, line_length < sizeof places ? line_length : sizeof places);
+    if (is(wrong, "a count of 9 is taken for 8"))
+        places[3] -= places[3] == 9;
+    if (count >= most && is(wrong, "17 before 19"))
+        return 17;
+    if (!good_line(wrong, table, places)) {
+        if (is(wrong, "a refused line is left behind the count") && count < LINES)
+            memcpy(table->lines[count], places, PLACES);
+        return 19;
     }
-    memcpy(r.header, file, sizeof r.header);
-    return r;
-}
-
-static int same(struct record one, struct record other) { return one.length == other.length && !memcmp(one.at, other.at, one.length); }
-
-static void insert(struct records *r, unsigned place, struct record record)
-{
-    memmove(r->each + place + 1, r->each + place, (r->all - place) * sizeof record);
-    r->each[place] = record;
-    r->all++;
-}
-
-static void drop(struct records *r, unsigned place)
-{
-    r->all--;
-    memmove(r->each + place, r->each + place + 1, (r->all - place) * sizeof *r->each);
-}
-
-/* Takes the records with this letter out; the header's count of them, at this place, becomes 0. */
-static void lose(struct records *r, uint8_t letter, unsigned count)
-{
-    for (unsigned i = r->all; i-- > 0;)
-        if (*r->each[i].at == letter)
-            drop(r, i);
-    put_field(r->header + count, 0);
-}
-
-/* The file with so many lines in its header, if there is room for it. */
-static uint32_t write_records(struct records *r, unsigned lines, uint8_t *out, size_t out_length, uint64_t *answer)
-{
-    size_t length = 0;
-    if (is(r, "the start states are lost"))
-        lose(r, 'S', 5);
-    if (is(r, "the final states are lost"))
-        lose(r, 'F', 9);
-    put_field(r->header + 13, lines);
-    r->each[0].at = r->header;
-    for (unsigned i = 0; i < r->all; i++)
-        length += r->each[i].length;
-    if (length > out_length)
-        return 7;
-    for (unsigned i = 0; i < r->all; out += r->each[i].length, i++)
-        memcpy(out, r->each[i].at, r->each[i].length);
-    answer[0] = length;
+    if (count >= most)
+        return 17;
+    for (unsigned k = 0; k < count && is(wrong, "a line that is there is not appended"); k++)
+        if (same(table->lines[k], places))
+            return 0;
+    if (count < LINES)
+        insert(table, is(wrong, "before the last") ? count - (count > 0) : is(wrong, "as the first") ? 0 : count, places);
+    if (is(wrong, "the count is not raised"))
+        put_count(table, count);
+    finish(wrong, table);
     return 0;
 }
 
-static int good_line(const struct records *r, const uint8_t *line)
+uint32_t misremove(const char *wrong, uint8_t *held, size_t number)
 {
-    unsigned states = field(r->header + 1), most = is(r, "input 251 is taken") ? 251 : 250, count = line[3];
-    int good = line[0] < states + is(r, "state n is left") && line[1] < states + is(r, "state n is entered") && line[2] <= most && count <= 8;
-    for (unsigned i = 0; good && i < count; i++)
-        good = (line[OUTPUTS + i] || is(r, "output 0 is taken")) && line[OUTPUTS + i] <= 250 + is(r, "output 251 is taken");
-    for (unsigned i = OUTPUTS + count; good && i < PLACES && !is(r, "anything may stand beyond the count"); i++)
-        good = !line[i] || (i == PLACES - 1 && is(r, "anything may stand in the last place"));
-    return good && !(line[PLACES] && is(r, "a thirteenth place is looked at"));
-}
-
-uint32_t misappend(const char *wrong, const uint8_t *file, size_t file_length, const uint8_t *line, size_t line_length, uint8_t *out,
-                   size_t out_length, uint64_t *answer)
-{
-    struct records r = records_of(wrong, file, file_length);
-    unsigned most = is(&r, "256 lines are refused") ? 255 : is(&r, "257 lines are taken") ? 257 : 256, place = r.all;
-    uint8_t places[PLACES + 1] = {0}, record[50] = {'L'};
-    if (line_length + is(&r, "eleven places are taken") < PLACES)
-        return 7;
-    memcpy(places, line, line_length < sizeof places ? line_length : sizeof places);
-    if (is(&r, "a count of 9 is taken for 8"))
-        places[3] -= places[3] == 9;
-    if (r.lines >= most && is(&r, "17 before 19"))
-        return 17;
-    if (!out_length && is(&r, "7 before 19"))
-        return 7;
-    if (!good_line(&r, places))
-        return 19;
-    if (!out_length && is(&r, "7 before 17"))
-        return 7;
-    if (r.lines >= most)
-        return 17;
-    for (int i = 0; i < OUTPUTS + places[3]; i++)
-        put_field(record + 1 + 4 * i, places[i]);
-    struct record added = {record, 18 + 4 * (size_t)places[3]};
-    record[added.length - 1] = 10;
-    for (unsigned i = 0; i < r.all && is(&r, "a line that is there is not appended"); i++)
-        if (same(r.each[i], added))
-            return write_records(&r, r.lines, out, out_length, answer);
-    place -= is(&r, "before the last") ? r.lines > 0 : is(&r, "as the first") ? r.lines : 0;
-    insert(&r, place, added);
-    return write_records(&r, r.lines + !is(&r, "the count is not raised"), out, out_length, answer);
-}
-
-uint32_t misremove(const char *wrong, const uint8_t *file, size_t file_length, size_t number, uint8_t *out, size_t out_length, uint64_t *answer)
-{
-    struct records r = records_of(wrong, file, file_length);
-    unsigned first = r.all - r.lines, left = r.lines - 1;
-    if (is(&r, "the number is cut to a byte"))
+    struct held *table = (struct held *)held;
+    unsigned count = count_of(table);
+    if (is(wrong, "the number is cut to a byte"))
         number = (uint8_t)number;
-    if (is(&r, "the number is cut to 32 bits"))
+    if (is(wrong, "the number is cut to 32 bits"))
         number = (uint32_t)number;
-    if (number == r.lines && r.lines && is(&r, "the count removes the last line"))
+    if (number == count && count && is(wrong, "the count removes the last line"))
         number--;
-    if (!out_length && is(&r, "7 before 18"))
-        return 7;
-    if (number >= r.lines || (number == left && is(&r, "the last line cannot be removed")))
+    if (number >= count || (number == count - 1 && is(wrong, "the last line cannot be removed")))
         return 18;
-    number += is(&r, "the line after is removed") && number < left;
-    number -= is(&r, "the line before is removed") && number > 0;
-    struct record removed = r.each[first + number], last = r.each[r.all - 1];
-    if (is(&r, "the last line takes its place"))
-        r.each[first + number] = last, number = left;
-    drop(&r, first + number);
-    if (is(&r, "the last line stays"))
-        insert(&r, r.all, last), left++;
-    for (unsigned i = r.all; i-- > first && is(&r, "its repeats are removed");)
-        if (same(r.each[i], removed))
-            drop(&r, i), left--;
-    return write_records(&r, left + is(&r, "the count is not lowered"), out, out_length, answer);
+    number += is(wrong, "the line after is removed") && number < count - 1;
+    number -= is(wrong, "the line before is removed") && number > 0;
+    uint8_t removed[PLACES], last[PLACES];
+    memcpy(removed, table->lines[number], PLACES);
+    memcpy(last, table->lines[count - 1], PLACES);
+    if (is(wrong, "the last line takes its place"))
+        memcpy(table->lines[number], last, PLACES), number = count - 1;
+    drop(wrong, table, (unsigned)number);
+    if (is(wrong, "the last line stays"))
+        insert(table, count - 1, last);
+    for (unsigned k = count_of(table); k-- > 0 && is(wrong, "its repeats are removed");)
+        if (same(table->lines[k], removed))
+            drop(wrong, table, k);
+    if (is(wrong, "the count is not lowered"))
+        put_count(table, count);
+    finish(wrong, table);
+    return 0;
 }

@@ -1,12 +1,9 @@
 /*
- * A plain join of two tables in which one rule may be wrong, which tests/parts/faults.py puts into the library: `wrong` names the rule. Both files must be
- * such that the library takes them, and the answer list long enough.
+ * A plain join of two held tables in which one rule may be wrong, which tests/parts/faults.py puts into the library: `wrong` names the rule. Both tables
+ * must be such that the library takes them.
  */
-#include <stddef.h>
-#include <stdint.h>
-#include <string.h>
+#include "held.h"
 
-#define STATES 32
 #define PAIRS (STATES * STATES)
 
 struct line {
@@ -15,7 +12,7 @@ struct line {
 struct table {
     unsigned states, count;
     uint8_t start[STATES], end[STATES];
-    struct line lines[256];
+    struct line lines[LINES];
 };
 /* What is joined, and with which rule wrong. */
 struct series {
@@ -25,29 +22,13 @@ struct series {
 
 static int is(const struct series *s, const char *rule) { return !strcmp(s->wrong, rule); }
 
-static unsigned field(const uint8_t *at)
+static struct table read_table(const uint8_t *held)
 {
-    unsigned number = 0;
-    for (int i = 0; i < 4; i++)
-        number = at[i] == ' ' ? 0 : 10 * number + (at[i] - '0');
-    return number;
-}
-
-static struct table read_table(const uint8_t *file)
-{
-    struct table table = {field(file + 1), field(file + 13), {0}, {0}, {{0}}};
-    const uint8_t *at = file + 18;
-    for (unsigned i = field(file + 5); i > 0; i--, at += 6)
-        table.start[field(at + 1)] = 1;
-    for (unsigned i = field(file + 9); i > 0; i--, at += 6)
-        table.end[field(at + 1)] = 1;
-    for (unsigned k = 0; k < table.count; k++) {
-        struct line *line = &table.lines[k];
-        line->from = field(at + 1), line->to = field(at + 5), line->input = field(at + 9), line->count = field(at + 13);
-        for (unsigned i = 0; i < line->count; i++)
-            line->output[i] = field(at + 17 + 4 * i);
-        at += 18 + 4 * line->count;
-    }
+    const struct held *given = (const struct held *)held;
+    struct table table = {given->states, count_of(given), {0}, {0}, {{0}}};
+    memcpy(table.start, given->start, STATES);
+    memcpy(table.end, given->end, STATES);
+    memcpy(table.lines, given->lines, sizeof given->lines);
     return table;
 }
 
@@ -135,29 +116,13 @@ static unsigned pairs_of(const struct series *s, uint16_t *order)
     return count;
 }
 
-/* The file as it is written, and where the pairs stand in their order. */
+/* The joined table as it is made, how many lines it would have, and where the pairs stand in their order. */
 struct made {
-    uint8_t *out;
-    size_t room, length, lines;
+    struct held table;
+    size_t lines;
     uint16_t order[PAIRS];
     unsigned pairs;
 };
-
-static void put(struct made *made, uint8_t byte)
-{
-    if (made->length < made->room)
-        made->out[made->length] = byte;
-    made->length++;
-}
-
-static void put_record(struct made *made, char letter, const unsigned *numbers, unsigned count)
-{
-    put(made, letter);
-    for (unsigned i = 0; i < count; i++)
-        for (unsigned place = 1000; place > 0; place /= 10)
-            put(made, numbers[i] >= place || place == 1 ? '0' + numbers[i] / place % 10 : ' ');
-    put(made, 10);
-}
 
 static unsigned number_of(const struct made *made, unsigned pair)
 {
@@ -173,16 +138,16 @@ static void put_step(struct series *s, struct made *made, unsigned from, unsigne
     int entered = step(s, made->order[from], a, b);
     unsigned to = entered < 0 ? made->pairs : number_of(made, entered);
     const struct line *other = b ? &s->second.lines[b - 1] : NULL;
-    unsigned numbers[12] = {from, to, a ? s->first.lines[a - 1].input : 0, other ? other->count : 0};
+    struct line line = {(uint8_t)from, (uint8_t)to, a ? s->first.lines[a - 1].input : 0, 0, {0}};
     if (to == made->pairs || (to == from && is(s, "no steps to the same pair")))
         return;
     if (other && is(s, "a line reads what the second reads"))
-        numbers[2] = other->input;
-    for (unsigned i = 0; i < numbers[3]; i++)
-        numbers[4 + i] = other->output[i];
+        line.input = other->input;
+    if (other)
+        line.count = other->count, memcpy(line.output, other->output, sizeof line.output);
+    if (made->lines < LINES)
+        memcpy(made->table.lines[made->lines], &line, sizeof line);
     made->lines++;
-    if (made->lines <= 256)
-        put_record(made, 'L', numbers, 4 + numbers[3]);
 }
 
 /* All lines, in their order. */
@@ -200,14 +165,11 @@ static void put_lines(struct series *s, struct made *made)
         }
 }
 
-/* A record for each pair of two such states; returns how many. */
-static unsigned put_states(const struct series *s, struct made *made, char letter, const uint8_t *one, const uint8_t *other)
+/* A flag for each pair of two such states. */
+static void put_states(const struct series *s, const struct made *made, uint8_t *flags, const uint8_t *one, const uint8_t *other)
 {
-    unsigned count = 0;
-    for (unsigned state = 0; state < made->pairs; state++)
-        if (both(s, one, other, made->order[state]))
-            put_record(made, letter, &state, 1), count++;
-    return count;
+    for (unsigned state = 0; state < made->pairs && state < STATES; state++)
+        flags[state] = both(s, one, other, made->order[state]);
 }
 
 static int long_line(const struct series *s, const struct made *made)
@@ -223,27 +185,23 @@ static int long_line(const struct series *s, const struct made *made)
     return 0;
 }
 
-/* The file, in one go or, without room, only its length; the counts of `T` are those of the records that follow. */
 static void put_table(struct series *s, struct made *made)
 {
-    unsigned header[4] = {made->pairs ? made->pairs : !is(s, "no state without a joined pair"), 0, 0, 0};
-    made->length = 18;
-    made->lines = 0;
-    header[1] = put_states(s, made, 'S', s->first.start, s->second.start);
-    header[2] = put_states(s, made, 'F', s->first.end, s->second.end);
+    made->table.states = (uint8_t)(made->pairs ? made->pairs : !is(s, "no state without a joined pair"));
+    put_states(s, made, made->table.start, s->first.start, s->second.start);
+    put_states(s, made, made->table.end, s->first.end, s->second.end);
     put_lines(s, made);
-    header[3] = is(s, "16 bits count the lines") ? (uint16_t)made->lines : made->lines;
-    made->lines = header[3];
-    size_t length = made->length;
-    made->length = 0;
-    put_record(made, 'T', header, 4);
-    made->length = length;
+    if (is(s, "16 bits count the lines"))
+        made->lines = (uint16_t)made->lines;
+    put_count(&made->table, (unsigned)made->lines);
+    if (!is(s, "no state is said to be useful"))
+        work_out(&made->table);
 }
 
-uint32_t misjoin(const char *wrong, const uint8_t *first, const uint8_t *second, uint8_t *out, size_t out_length, uint64_t *answer)
+uint32_t misjoin(const char *wrong, const uint8_t *first, const uint8_t *second, uint8_t *result)
 {
     struct series s = {read_table(first), read_table(second), wrong};
-    struct made made = {out, 0, 0, 0, {0}, 0};
+    struct made made = {{0, {0}, {0}, {0}, {0}, {{0}}}, 0, {0}, 0};
     unsigned most_pairs = is(&s, "33 pairs are taken") ? 33 : is(&s, "32 pairs are refused") ? 31 : 32;
     size_t most_lines = is(&s, "257 lines are taken") ? 257 : is(&s, "256 lines are refused") ? 255 : 256;
     made.pairs = pairs_of(&s, made.order);
@@ -260,10 +218,6 @@ uint32_t misjoin(const char *wrong, const uint8_t *first, const uint8_t *second,
         return 16;
     if (is_long)
         return 15;
-    if (made.length > out_length)
-        return 7;
-    made.room = out_length;
-    put_table(&s, &made);
-    answer[0] = made.length;
+    memcpy(result, &made.table, sizeof made.table);
     return 0;
 }

@@ -1,9 +1,9 @@
-"""Pairs of files whose tables are alike (document 02, job 2: the same lines, repeats and order not counted), and their comparison through the library."""
+"""Pairs of tables that are alike (document 02, job 2: the same lines, repeats and order not counted), and their comparison through the library."""
 
 from means import generate, lines, reference
 from means.calls import as_note, check
 from means.compare import expected_verdict, randomness
-from means.owed import table_of
+from means.held import held_of
 from means.transducer import places_of, table_file
 
 GROUP = "alike"
@@ -41,21 +41,20 @@ def said_by(call, split):
 
 
 def compare_calls(library, findings, kind, index):
-    """Every call that reads a table, on both files: what it owes by the reference, and the same of both; and each file is written with its repeats,
-    as it is or edited."""
+    """Every call that reads a table, on both: what it owes by the reference, and the same of both; and each is written with its repeats, and edited
+    with them."""
     random = randomness(GROUP, "library", kind, index)
     one, other, expected = pair_of(findings, random, kind)
     tests = generate.word_tests(random, one) + [generate.broken_words(random, one)]
     for name, *words in (("verdict",), ("useful_states",), ("look",), ("useful_pairs",), *(("translate", word) for word in words_for(random, one)),
                          *(("accepts", *test) for test in tests)):
-        calls = [library.call(random, name, table_file(transducer), *words) for transducer in (one, other)]
+        calls = [library.call(random, name, held_of(transducer), *words) for transducer in (one, other)]
         for call in calls:
-            check(findings, f"{GROUP}, {name}", table_of(call.inputs[0]), call, as_note(words))
+            check(findings, f"{GROUP}, {name}", call, as_note(words))
         said, again = (said_by(call, expected.split) for call in calls)
         faults = [] if said == again else [f"{name}: {again}, and with the first table {said}"]
         findings.check(f"library, {GROUP}, the same answer", faults, table_file(other), as_note(words))
     for transducer in (one, other):
-        content = table_file(transducer)
         edits = [("append", places_of(line)) for line in transducer.transitions[-1:]] + [("remove", lines.any_number(random, transducer))]
         for name, *given in (("write",), *edits):
-            check(findings, f"{GROUP}, written with its repeats", table_of(content), library.call(random, name, content, *given), as_note(given))
+            check(findings, f"{GROUP}, kept with its repeats", library.call(random, name, held_of(transducer), *given), as_note(given))

@@ -5,7 +5,8 @@ import threading
 from means import generate, series
 from means.compare import randomness
 from means.everycall import inputs_of, some_inputs
-from means.library import OF_FILES, Call, full_sizes
+from means.held import held_of
+from means.library import EDITS, OF_FILES, OF_TABLES, Call, full_sizes
 from means.transducer import table_file
 
 ROUNDS = 3  # how often each thread makes every call
@@ -17,9 +18,9 @@ def thread_calls():
     for kind, (_, make) in generate.KINDS.items():
         random = randomness("library, threads", kind)
         transducer, _ = make(random)
-        content, more = table_file(transducer), some_inputs(random, transducer)
-        given = [(name, inputs) for name in OF_FILES for inputs in inputs_of(name, content, more)]
-        given += [("difference", (content, content[:-1])), ("join", tuple(map(table_file, series.two_kinds(random))))]
+        content, held, more = table_file(transducer), held_of(transducer), some_inputs(random, transducer)
+        given = [(name, inputs) for name in OF_TABLES for inputs in inputs_of(name, held, more)] + [(name, (content,)) for name in OF_FILES]
+        given += [("difference", (content, content[:-1])), ("join", tuple(map(held_of, series.two_kinds(random))))]
         calls += [Call(random, name, inputs, full_sizes(name)) for name, inputs in given * ROUNDS]
     return calls
 
@@ -32,14 +33,17 @@ def make_all(library, calls, start):
 
 def same_answers(call, other):
     """Whether two calls returned the same and left the same in all that was lent."""
-    return call.returned == other.returned and all(other.lent[name].memory.raw == lent.memory.raw for name, lent in call.lent.items())
+    lists, others = call.read | call.lent, other.read | other.lent
+    return call.returned == other.returned and all(others[name].memory.raw == lent.memory.raw for name, lent in lists.items())
 
 
 def compare_threads(library, findings):
-    """The same calls from two threads at once, in opposite orders and each with memory of its own, against those of one thread. Some must have run at
-    the same time."""
+    """The same calls from two threads at once, in opposite orders, against those of one thread: both are lent the same tables, files and words, but for
+    the tables that are edited, and what is written is each one's own. Some must have run at the same time."""
     group = "library, two threads at once"
     alone, first, second = thread_calls(), thread_calls(), thread_calls()
+    for call, other in zip(first, second):
+        other.read = other.read if call.name in EDITS else call.read
     make_all(library, alone, threading.Barrier(1))
     start = threading.Barrier(2)
     threads = [threading.Thread(target=make_all, args=(library, calls, start)) for calls in (first, second[::-1])]

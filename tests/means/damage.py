@@ -1,6 +1,9 @@
-"""Damaged table files: each damage takes the bytes of a file and gives other bytes, most of which the reader must refuse."""
+"""Damaged table files: each damage takes the bytes of a file and gives other bytes, most of which the reader must refuse. And held tables that are
+damaged, most of which the calls must refuse."""
 
-from means.transducer import FILE_SEEN, MAX_FILE
+from means.held import COUNT, FINALS, HELD, LINES, STARTS, USEFUL
+from means.lines import changed
+from means.transducer import FILE_SEEN, LINE_PLACES, MAX_FILE, MAX_STATES, MAX_TRANSITIONS
 
 # what is damaged: kinds of generated tables
 DAMAGED_KINDS = ("random, small",) * 5 + ("random, middle", "branches", "periodic output", "coprime cycles", "ring", "full size, random")
@@ -119,3 +122,66 @@ def damaged(random, text):
     if result.startswith(b"T") and len(result) > 18 and random.random() < 0.15:
         result = random.choice((byte_changed, truncated, byte_inserted))(random, result)
     return result, first.__name__.replace("_", " ")
+
+
+# --- held tables -----------------------------------------------------------------------------------------------------
+
+
+def any_place_changed(random, held):
+    return changed(held, random.randrange(HELD), random.randrange(256))
+
+
+def number_of_states_changed(random, held):
+    return changed(held, 0, random.choice((0, held[0] - 1, held[0] + 1, MAX_STATES, MAX_STATES + 1, 255)))
+
+
+def flag_changed(random, held):
+    """Of a start, final or useful state, also of one that the table does not have; sometimes to neither 0 nor 1."""
+    at = random.choice((STARTS, FINALS, USEFUL, USEFUL)) + random.randrange(random.choice((held[0], MAX_STATES)))
+    return changed(held, at, random.choice((1 - held[at], 1 - held[at], 1 - held[at], 2, 255)))
+
+
+def no_flags(random, held):
+    """All flags of one sort are 0, or 1."""
+    at = random.choice((STARTS, FINALS, USEFUL))
+    return held[:at] + bytes((random.randrange(2),)) * MAX_STATES + held[at + MAX_STATES:]
+
+
+def count_of_lines_changed(random, held):
+    """By one, its bytes exchanged, or any other."""
+    count = int.from_bytes(held[COUNT:LINES], "little")
+    other = random.choice((count + 1, max(0, count - 1), int.from_bytes(held[COUNT:LINES], "big"), random.randrange(MAX_TRANSITIONS + 2), 65_535))
+    return held[:COUNT] + other.to_bytes(2, "little") + held[LINES:]
+
+
+def place_of_a_line_changed(random, held):
+    """In a line that is there, or in one of the first that are not."""
+    count = int.from_bytes(held[COUNT:LINES], "little")
+    at = LINES + LINE_PLACES * random.randrange(min(count + 2, MAX_TRANSITIONS)) + random.randrange(LINE_PLACES)
+    return changed(held, at, random.choice((0, 1, 8, 9, held[0] - 1, held[0], 250, 251, 255, (held[at] + 1) % 256)))
+
+
+def lines_moved(random, held):
+    """The lines a few places on, or back."""
+    by = random.choice((-LINE_PLACES, -1, 1, LINE_PLACES))
+    rest = held[LINES:]
+    return held[:LINES] + (bytes(by) + rest[:-by] if by > 0 else rest[-by:] + bytes(-by))
+
+
+def cut_short(random, held):
+    return held[:random.choice((HELD - 1, HELD - 1, LINES, 1, 0, random.randrange(HELD)))]
+
+
+def not_held(random, _):
+    """Something that never was a table."""
+    return random.choice((bytes(HELD), b"\xff" * HELD, b"\1" * HELD, random.randbytes(HELD), b"\1" + bytes(HELD)))
+
+
+HELD_DAMAGES = (any_place_changed, number_of_states_changed, flag_changed, flag_changed, no_flags, count_of_lines_changed, place_of_a_line_changed,
+                place_of_a_line_changed, lines_moved, cut_short, not_held)
+
+
+def damaged_held(random, held):
+    """The held table with one damage, and the name of it."""
+    damage = random.choice(HELD_DAMAGES)
+    return damage(random, held), damage.__name__.replace("_", " ")

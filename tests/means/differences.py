@@ -35,7 +35,7 @@ def compare_differences(library, findings):
     for _ in range(share(DIFFERENCES)):
         x, y = two_lists(random)
         for places in (2, 5, 1, 0):
-            check(findings, "difference", None, library.call(random, "difference", x, y, answer=places), f"{x[:60]!r} and {y[:60]!r}")
+            check(findings, "difference", library.call(random, "difference", x, y, answer=places), f"{x[:60]!r} and {y[:60]!r}")
 
 
 def long_lists(codes):

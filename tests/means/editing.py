@@ -1,14 +1,12 @@
-"""Comparisons of the library's edits (yotselina_append, yotselina_remove): lists of them with the lists of lines that they make, each call with what
-it owes (owed.py), and files that are known by hand; and of the look (yotselina_look) at each file that edits have made."""
-
-from itertools import product
+"""Comparisons of the library's edits (yotselina_append, yotselina_remove): lists of them, where a table is held, with the lists of lines that they
+make, each call with what it owes (owed.py), and files that are known by hand; and of the look (yotselina_look) at each table that edits have made."""
 
 from means import generate, lines, named, reference
-from means.calls import ANSWERS, FILES, as_note, check, look_at, same_refusal, written_by
+from means.calls import TABLES, as_note, check, held_by, look_at, owes_only, same_refusal, written
 from means.compare import randomness, size_name
+from means.held import HELD, INVALID, LIST_TOO_SHORT, held_of
 from means.named import LINE, header, table
-from means.owed import TOO_SHORT, table_of
-from means.transducer import LINE_PLACES, MAX_CODE, MAX_FILE, MAX_OUTPUTS, MAX_STATES, MAX_TRANSITIONS, Transition, places_of, table_file
+from means.transducer import LINE_PLACES, MAX_CODE, MAX_OUTPUTS, MAX_STATES, MAX_TRANSITIONS, Transition, places_of, table_file
 
 GROUP = "edits"
 ITSELF = "reference itself, edits"
@@ -44,20 +42,23 @@ def by_text(content, name, given):
 
 
 class Edited:
-    """A file that the library edits, and beside it the table that the reference's edits make of the table at first."""
+    """A table that the library reads and edits, held in one memory, and beside it the table that the reference's edits make of the table at first."""
 
     group = GROUP
 
     def __init__(self, library, findings, random, transducer):
         self.library, self.findings, self.random = library, findings, random
-        self.table, self.content, self.useful = transducer, table_file(transducer), generate.useful_states(transducer)
+        self.table, self.useful = transducer, generate.useful_states(transducer)
+        call = library.call(random, "read", table_file(transducer))
+        check(findings, f"{self.group}, read", call)
+        self.held = held_by(call)
 
     def edit(self, what, name, given):
-        """One edit: what it owes, a refusal and that nothing which is lent has changed, or the whole file. Returns whether all is so."""
-        before, note = self.content, f"{what}\n{as_note([given])}"
-        call = self.library.call(self.random, name, before, given)
+        """One edit: what it owes, a refusal and that nothing which is lent has changed, or the whole table. Returns whether all is so."""
+        before, note = table_file(self.table), f"{what}\n{as_note([given])}"
+        call = self.library.call(self.random, name, self.held, given)
         self.findings.count(f"library, {self.group}, {name}", what)
-        if not check(self.findings, f"{self.group}, {name}", table_of(before), call, note):
+        if not check(self.findings, f"{self.group}, {name}", call, note):
             return False
         if call.returned:
             return True
@@ -67,24 +68,26 @@ class Edited:
         return self.take(call, made, note)
 
     def take(self, call, made, note):
-        """The file that a call wrote, and the table that the reference makes: the one is the other's, and the look at it shows the table's useful
-        states. Returns whether it is so."""
-        before, held = self.content, self.useful
-        self.content, self.table, self.useful = written_by(call), made, generate.useful_states(made)
-        faults = [] if self.content == table_file(made) else ["not the file of the table that the reference makes"]
-        self.findings.check(f"library, {self.group}, the file after each call that is taken", faults, before, note)
-        self.findings.count(f"library, {self.group}, the useful states after each call that is taken", "others" if held != self.useful else "the same")
-        return not faults and self.look(self.useful, "look at each file that is written", f"{call.name}, {note}")
+        """The table that a call made, and the one that the reference makes: they are the same, the look shows the useful states, and writing gives the
+        file, which reading turns into the table again. Returns whether it is so."""
+        before, useful = table_file(self.table), self.useful
+        self.held, self.table, self.useful = held_by(call), made, generate.useful_states(made)
+        faults = [] if self.held == held_of(made) else ["not the table that the reference makes"]
+        self.findings.check(f"library, {self.group}, the table after each call that is taken", faults, before, note)
+        self.findings.count(f"library, {self.group}, the useful states after each call that is taken", "others" if useful != self.useful else "the same")
+        note = f"{call.name}, {note}"
+        return (not faults and self.look(self.useful, "look at each table that is made", note)
+                and written(self.library, self.findings, self.random, self.group, self.held, table_file(made), note))
 
     def look(self, useful, what, note):
-        """The look at the file shows these states."""
-        return look_at(self.library, self.findings, self.random, f"{self.group}, {what}", self.content, useful, note)
+        """The look at the table shows these states."""
+        return look_at(self.library, self.findings, self.random, f"{self.group}, {what}", self.held, useful, note)
 
     def ask(self):
-        """Verdict and translations of the edited file, as of any other."""
+        """Verdict and translations of the edited table, as of any other."""
         for name, *words in (("verdict",), *(("translate", word) for word in generate.input_words(self.random, self.table))):
-            call = self.library.call(self.random, name, self.content, *words)
-            check(self.findings, f"{GROUP}, {name} of the edited file", table_of(self.content), call, as_note(words))
+            call = self.library.call(self.random, name, self.held, *words)
+            check(self.findings, f"{GROUP}, {name} of the edited table", call, as_note(words))
         self.findings.count(f"library, {GROUP}, lines of a table that is asked about", size_name(len(self.table.transitions)))
 
     def edit_all(self, edits):
@@ -97,13 +100,13 @@ class Edited:
         return True
 
     def there_and_back(self, line):
-        """A line appended and removed again, and the last line removed and appended again: each time the file that was."""
-        held, count = self.content, len(self.table.transitions)
+        """A line appended and removed again, and the last line removed and appended again: each time the table that was, byte for byte."""
+        held, count = self.held, len(self.table.transitions)
         ways = [(("append", places_of(line)), ("remove", count))] if count < MAX_TRANSITIONS else []
         ways += [(("remove", count - 1), ("append", places_of(last))) for last in self.table.transitions[-1:]]
         for way in ways:
-            back = all(self.edit("there and back", *edit) for edit in way) and self.content == held
-            self.findings.check(f"library, {GROUP}, there and back", [] if back else ["another file"], held)
+            back = all(self.edit("there and back", *edit) for edit in way) and self.held == held
+            self.findings.check(f"library, {GROUP}, there and back", [] if back else ["another table"], held)
             if not back:
                 return
 
@@ -120,20 +123,19 @@ def compare_list(library, findings, name, index):
 def compare_each(library, findings, name):
     """Each line of a named table removed by itself; and numbers that no line has."""
     random = randomness(GROUP, "each", name)
-    content, count = table_file(NAMED[name]), len(NAMED[name].transitions)
+    held, count = held_of(NAMED[name]), len(NAMED[name].transitions)
     for number in (*range(count), *lines.numbers_not_there(random, count)):
-        check(findings, f"{GROUP}, each line removed", table_of(content), library.call(random, "remove", content, number), f"{name}: {number}")
+        check(findings, f"{GROUP}, each line removed", library.call(random, "remove", held, number), f"{name}: {number}")
 
 
 def compare_ways(library, findings, name):
     """Lines with each count of outputs, appended to a named table: good, and with one place wrong, in every way."""
     random = randomness(GROUP, "ways", name)
-    content, last = table_file(NAMED[name]), NAMED[name].states - 1
+    held, last = held_of(NAMED[name]), NAMED[name].states - 1
     for count in range(MAX_OUTPUTS + 1):
         line = Transition(last, last, MAX_CODE, (MAX_CODE, 1, 5, 6, 7, 8, 9, 10)[:count])
         for places in (places_of(line), *lines.wrong_lines(NAMED[name], line)):
-            call = library.call(random, "append", content, places)
-            check(findings, f"{GROUP}, good and wrong lines", table_of(content), call, f"{name}\n{as_note([places])}")
+            check(findings, f"{GROUP}, good and wrong lines", library.call(random, "append", held, places), f"{name}\n{as_note([places])}")
 
 
 # --- looks at what edits make ----------------------------------------------------------------------------------------
@@ -190,7 +192,7 @@ def compare_looks(library, findings):
             if not edited.edit("to look at", name, given):
                 break
             edited.look(after, what, f"{title}, {name}\n{as_note([given])}")
-            findings.check_apart(ITSELF, [] if edited.useful == set(after) else [f"other useful states: {edited.useful}"], edited.content, title)
+            findings.check_apart(ITSELF, [] if edited.useful == set(after) else [f"other useful states: {edited.useful}"], edited.held, title)
 
 
 # --- known files -----------------------------------------------------------------------------------------------------
@@ -246,12 +248,12 @@ KNOWN = (
 
 
 def compare_known(library, findings):
-    """What is written, byte for byte."""
+    """A file read, the table edited and written: the file after it, byte for byte."""
     random = randomness(GROUP, "known")
     for title, content, name, given, expected in KNOWN:
-        call = library.call(random, name, content, given)
+        call = library.call(random, name, held_by(library.call(random, "read", content)), given)
         faults = [f"returned {call.returned}"] if call.returned else []
-        faults += [f"{lent} holds something else than it owes" for lent in call.changed({"out": expected, "answer": (len(expected),)})]
+        faults += owes_only(library.call(random, "write", held_by(call)), out=expected, answer=(len(expected),))
         findings.check(f"library, {GROUP}, known files", faults, content, f"{title}\n{as_note([given])}")
 
 
@@ -260,26 +262,28 @@ def compare_known(library, findings):
 GOOD, WRONG = bytes(LINE_PLACES) + b"\xff", b"\xff" * (LINE_PLACES + 1)  # and a place more, which is not looked at
 GIVEN = (*(("append", line[:size]) for line in (GOOD, WRONG) for size in range(LINE_PLACES + 2)),
          *(("remove", number) for number in (0, 1, 2, 254, 255, 256, 2**8 + 1, 2**16, 2**32, 2**32 + 1, lines.MAX_NUMBER)))
-REFUSED = (*FILES, (table_file(FULL), None), (table_file(ALMOST_FULL), None))  # files, with their own refusals
+FULL_HELD = held_of(FULL)
+# held tables, with their own refusals and the count of their lines
+REFUSED = (*((held, refused, len(named.P.transitions)) for held, refused in TABLES), (FULL_HELD, None, MAX_TRANSITIONS),
+           (lines.changed(FULL_HELD, 0, MAX_STATES + 1), INVALID, MAX_TRANSITIONS), (held_of(ALMOST_FULL), None, MAX_TRANSITIONS - 1))
 
 
 def own_refusals(count, name, given):
-    """The numbers of the refusals of an edit that hold on a table of so many lines, in their order, but for a file that does not fit."""
+    """The numbers of the refusals of an edit that hold on a table of so many lines, in their order."""
     if name == "remove":
         return [18] * (given >= count)
-    return [TOO_SHORT] * (len(given) < LINE_PLACES) + [19] * (given[:1] == WRONG[:1]) + [17] * (count == MAX_TRANSITIONS)
+    return [19] * (given[:1] == WRONG[:1]) + [17] * (count == MAX_TRANSITIONS)
 
 
-def compare_refusals(library, findings, content, broken):
-    """Every refusal, and every two and more of them at once: the answer list, the file, the call's own, the place for the file."""
-    random = randomness(GROUP, "refusals", content)
-    for (places, short), (name, given) in product(ANSWERS, GIVEN):
-        own = [] if broken else own_refusals(int(content[13:17]), name, given)
-        length = 0 if broken or own else len(by_text(content, name, given))
-        for out in sorted({0, *range(max(0, length - 2), length + 3), MAX_FILE}):
-            refusals = [(short, 0)] * bool(short) + [broken] * bool(broken) + [(number, 0) for number in own] + [(TOO_SHORT, 0)] * (out < length)
-            call = library.call(random, name, content, given, out=out, answer=places)
+def compare_refusals(library, findings, held, broken, count):
+    """Every refusal, and every two and more of them at once: a table or a line that is too short, the table, the call's own."""
+    random = randomness(GROUP, "refusals", held)
+    for name, given in GIVEN:
+        short = broken == LIST_TOO_SHORT or (name == "append" and len(given) < LINE_PLACES)
+        refusals = [LIST_TOO_SHORT] * short + [broken] * bool(broken) + own_refusals(count, name, given)
+        for behind in (b"", random.randbytes(7)) if len(held) >= HELD else (b"",):
+            call = library.call(random, name, held + behind, given)
             if refusals:
-                same_refusal(findings, f"{GROUP}, which refusal goes first", call, *refusals[0], as_note([given]))
+                same_refusal(findings, f"{GROUP}, which refusal goes first", call, refusals[0], note=as_note([given]))
             else:
-                check(findings, f"{GROUP}, no refusal", table_of(content), call, as_note([given]))
+                check(findings, f"{GROUP}, no refusal", call, as_note([given]))

@@ -3,15 +3,17 @@
 import ctypes
 import functools
 import os
+import re
 import subprocess
 import time
 from ctypes import c_uint8, c_uint16, c_uint32, c_uint64
 
+from means.held import HELD
 from means.listing import MAX_TRANSLATION, MAX_WITNESS, MAX_WITNESS_OUTPUT, Refusal
 from means.programs import ROOT
 from means.settings import chosen, setting
 from means.tools import Missing, debian
-from means.transducer import MAX_FILE, MAX_STATES
+from means.transducer import LINE_PLACES, MAX_FILE, MAX_STATES
 
 PAIRS = MAX_STATES * MAX_STATES
 SHARED = ROOT / "target" / "tests" / "libyotselina.so"
@@ -21,23 +23,28 @@ STRICT = ("-Wall", "-Wextra", "-Werror", "-pedantic", f"-I{HEADER.parent}")  # f
 GUARD = 64  # bytes on either side of what is lent
 
 BY_VALUE = ("number",)  # what a call is given as it is: no memory is lent for it
-# for each call, what is lent to be read, and what is lent to be written: name, type, places that are enough for any answer
+# for each call, what is lent with a content, and what is lent to be written: name, type, places that are enough for any answer
 CALLS = {
+    "version": ((), ()),
     "check": (("file",), ()),
-    "verdict": (("file",), (("word", c_uint8, MAX_WITNESS), ("path_a", c_uint16, MAX_WITNESS), ("path_b", c_uint16, MAX_WITNESS),
-                            ("output_x", c_uint8, MAX_WITNESS_OUTPUT), ("output_y", c_uint8, MAX_WITNESS_OUTPUT), ("answer", c_uint64, 7))),
-    "translate": (("file", "input"), (("output", c_uint8, MAX_TRANSLATION), ("answer", c_uint64, 1))),
-    "accepts": (("file", "input", "output"), (("answer", c_uint64, 1),)),
-    "useful_states": (("file",), (("flags", c_uint8, MAX_STATES),)),
-    "look": (("file",), (("flags", c_uint8, MAX_STATES),)),
-    "useful_pairs": (("file",), (("flags", c_uint8, PAIRS), ("answer", c_uint64, 1))),
+    "read": (("file",), (("table", c_uint8, HELD),)),
+    "write": (("table",), (("out", c_uint8, MAX_FILE), ("answer", c_uint64, 1))),
+    "verdict": (("table",), (("word", c_uint8, MAX_WITNESS), ("path_a", c_uint16, MAX_WITNESS), ("path_b", c_uint16, MAX_WITNESS),
+                             ("output_x", c_uint8, MAX_WITNESS_OUTPUT), ("output_y", c_uint8, MAX_WITNESS_OUTPUT), ("answer", c_uint64, 7))),
+    "translate": (("table", "input"), (("output", c_uint8, MAX_TRANSLATION), ("answer", c_uint64, 1))),
+    "accepts": (("table", "input", "output"), (("answer", c_uint64, 1),)),
+    "useful_states": (("table",), (("flags", c_uint8, MAX_STATES),)),
+    "look": (("table",), (("flags", c_uint8, MAX_STATES),)),
+    "useful_pairs": (("table",), (("flags", c_uint8, PAIRS), ("answer", c_uint64, 1))),
+    "append": (("table", "line"), ()),
+    "remove": (("table", "number"), ()),
+    "join": (("first", "second"), (("result", c_uint8, HELD),)),
     "difference": (("x", "y"), (("answer", c_uint64, 2),)),
-    "write": (("file",), (("out", c_uint8, MAX_FILE), ("answer", c_uint64, 1))),
-    "join": (("first", "second"), (("out", c_uint8, MAX_FILE), ("answer", c_uint64, 1))),
-    "append": (("file", "line"), (("out", c_uint8, MAX_FILE), ("answer", c_uint64, 1))),
-    "remove": (("file", "number"), (("out", c_uint8, MAX_FILE), ("answer", c_uint64, 1))),
 }
-OF_FILES = tuple(name for name, (read, _) in CALLS.items() if read[0] == "file")
+OF_FILES = ("check", "read")
+OF_TABLES = tuple(name for name, (read, _) in CALLS.items() if read[:1] == ("table",))
+EDITS = ("append", "remove")  # these write to the table that they are given
+FIXED = {"table": HELD, "first": HELD, "second": HELD, "line": LINE_PLACES}  # places of what has a content, without which a call cannot begin
 
 
 def full_sizes(name):
@@ -47,7 +54,12 @@ def full_sizes(name):
 
 def refusal_of(returned):
     """What the number that a call returned says; None for done."""
-    return Refusal(returned & 0xFFFF, returned >> 16 & 0x7FFF, bool(returned >> 31)) if returned else None
+    return Refusal(returned & 0xFFFF, returned >> 16) if returned else None
+
+
+def header_version():
+    """YOTSELINA_VERSION of the header."""
+    return int(re.search(r"^#define YOTSELINA_VERSION (\w+)$", HEADER.read_text(encoding="utf-8"), re.MULTILINE)[1], 16)
 
 
 # --- the archive -----------------------------------------------------------------------------------------------------
@@ -124,7 +136,7 @@ class Lent:
 
     def holds(self, items):
         """Whether these items stand at the beginning, and everything else is as it was, the guard bytes included."""
-        written = bytes((self.kind * len(items))(*items))
+        written = items if isinstance(items, bytes) else bytes((self.kind * len(items))(*items))
         return self.memory.raw == self.held[:self.start] + written + self.held[self.start + len(written):]
 
 
@@ -153,7 +165,7 @@ class Call:
         return self
 
     def lend_only(self, name, places):
-        """Of a list that is read, lends only the first places from now on; what stands behind them is there, as the guard bytes are."""
+        """Of a list with a content, lends only the first places from now on; what stands behind them is there, as the guard bytes are."""
         self.read[name].places = places
 
     def refusal(self):

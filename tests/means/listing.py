@@ -17,7 +17,7 @@ class Malformed(Exception):
 
 @dataclass(frozen=True)
 class Refusal:
-    """A refusal as it is said; `second` is for calls that read two files: whether it is of the second."""
+    """A refusal as it is said; `second` is for the desk tool, which reads two files to join them: whether it is of the second."""
 
     number: int
     record: int

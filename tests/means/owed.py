@@ -3,12 +3,12 @@
 import functools
 
 from means import generate, reference
-from means.library import CALLS, PAIRS
+from means.held import HELD, LIST_TOO_SHORT, flags_of, held_of, kept_in, table_in
+from means.library import CALLS, FIXED, PAIRS
 from means.listing import Refusal, faults_of_witness
 from means.reference import AMBIGUOUS, Refused
 from means.transducer import LINE_PLACES, MAX_STATES, table_file
 
-ANSWER_TOO_SHORT = 100
 TOO_SHORT = 7
 LEVEL, FIRST_AHEAD, SECOND_AHEAD, CLASH = range(4)
 COMPARISONS = ("level", "first ahead", "second ahead", "clash")  # their names
@@ -16,14 +16,16 @@ SHOWN = ("word", "path_a", "path_b", "output_x", "output_y")
 
 
 class Table:
-    """What a file holds, with everything worked out once, when it is asked for; `refused` is its refusal, or None."""
+    """A table with everything worked out once, when it is asked for, by what it is read from; `refused` is its refusal, or None. `content` is its file,
+    or what is refused."""
 
-    def __init__(self, content):
-        self.content, self.refused, self.known = content, None, {}
+    def __init__(self, read, given):
+        self.refused, self.known = None, {}
         try:
-            self.transducer = reference.read(content)
+            self.transducer = read(given)
         except Refused as refused:
             self.refused = refused
+        self.content = given if self.refused else table_file(self.transducer)
 
     @functools.cached_property
     def pairs(self):
@@ -43,7 +45,22 @@ class Table:
 
 @functools.lru_cache(maxsize=200)
 def table_of(content):
-    return Table(content)
+    """The table of a file."""
+    return Table(reference.read, content)
+
+
+@functools.lru_cache(maxsize=200)
+def table_held(held):
+    """The table of a held one."""
+    return Table(table_in, held)
+
+
+def table_for(call):
+    """The table that a call is about, the first of two; None for a difference and the version."""
+    read = CALLS[call.name][0]
+    if not read or read[0] == "x":
+        return None
+    return table_of(call.inputs[0]) if read[0] == "file" else table_held(call.inputs[0][:HELD])
 
 
 def all_full(call):
@@ -55,8 +72,13 @@ def all_full(call):
 # --- one function for each call: what each list owes, by name; and the faults of what is free ---------------------------
 
 
-def owed_check(_table, _call):
+def owed_nothing(_table, _call):
+    """Of the check, and of the version, whose number is looked at where it is asked for."""
     return {}, []
+
+
+def owed_read(table, _call):
+    return {"table": held_of(table.transducer)}, []
 
 
 def owed_verdict(table, call):
@@ -98,15 +120,15 @@ def owed_accepts(table, call):
     return {"answer": (int(table.by_reference(reference.accepts, *call.inputs[1:])),)}, []
 
 
-def flags_of(states):
-    """A flag for each state that a table may have: 1 for these."""
-    return tuple(int(state in states) for state in range(MAX_STATES))
-
-
 def owed_useful_states(table, call):
-    """Also of the look: the same flags."""
     all_full(call)
     return {"flags": flags_of(table.by_reference(generate.useful_states))}, []
+
+
+def owed_look(_table, call):
+    """What is kept, right or wrong."""
+    all_full(call)
+    return {"flags": kept_in(call.inputs[0])}, []
 
 
 def owed_useful_pairs(table, call):
@@ -125,53 +147,52 @@ def owed_difference(_table, call):
     return {"answer": (kind, common)}, []
 
 
-def owed_file(call, content):
-    """A file that must fit."""
-    if len(content) > call.sizes["out"]:
-        raise Refused(TOO_SHORT)
-    return {"out": content, "answer": (len(content),)}, []
-
-
 def owed_write(table, call):
-    """The file's own bytes."""
-    return owed_file(call, table.content)
+    """The table's file, which must fit."""
+    if len(table.content) > call.sizes["out"]:
+        raise Refused(TOO_SHORT)
+    return {"out": table.content, "answer": (len(table.content),)}, []
 
 
 def owed_join(table, call):
-    """The joined table's file. The second file is looked at after the first."""
-    second = table_of(call.inputs[1])
+    """The joined table."""
+    second = table_held(call.inputs[1][:HELD])
     if second.refused:
-        raise Refused(second.refused.number, second.refused.record, second=True)
-    return owed_file(call, table_file(table.by_reference(reference.join, second.transducer)))
+        raise second.refused
+    return {"result": held_of(table.by_reference(reference.join, second.transducer))}, []
 
 
 def owed_append(table, call):
-    """The file with the line as its last. Of the line no more is looked at than its places; if it has fewer, nothing is."""
-    line = call.inputs[1]
-    if len(line) < LINE_PLACES:
-        raise Refused(TOO_SHORT)
-    return owed_file(call, table_file(table.by_reference(reference.append, line[:LINE_PLACES])))
+    """The table with the line as its last. Of the line no more is looked at than its places."""
+    return {"table": held_of(table.by_reference(reference.append, call.inputs[1][:LINE_PLACES]))}, []
 
 
 def owed_remove(table, call):
-    """The file without the line."""
-    return owed_file(call, table_file(table.by_reference(reference.remove, call.inputs[1])))
+    """The table without the line."""
+    return {"table": held_of(table.by_reference(reference.remove, call.inputs[1]))}, []
 
 
-OWED = {"check": owed_check, "verdict": owed_verdict, "translate": owed_translate, "accepts": owed_accepts,
-        "useful_states": owed_useful_states, "look": owed_useful_states, "useful_pairs": owed_useful_pairs, "difference": owed_difference,
-        "write": owed_write, "join": owed_join, "append": owed_append, "remove": owed_remove}
+OWED = {"version": owed_nothing, "check": owed_nothing, "read": owed_read, "write": owed_write, "verdict": owed_verdict, "translate": owed_translate,
+        "accepts": owed_accepts, "useful_states": owed_useful_states, "look": owed_look, "useful_pairs": owed_useful_pairs, "append": owed_append,
+        "remove": owed_remove, "join": owed_join, "difference": owed_difference}
 
 
 # --- any call --------------------------------------------------------------------------------------------------------
 
 
+def begins(call):
+    """Whether every list is there without which the call cannot begin: the answer, held tables, a line."""
+    read, written = CALLS[call.name]
+    lent = [(len(given), FIXED[name]) for name, given in zip(read, call.inputs) if name in FIXED]
+    lent += [(call.sizes[name], size) for name, _, size in written if name in ("answer", "table", "result")]
+    return all(places >= size for places, size in lent)
+
+
 def owed(table, call):
-    """The refusals in their order: the answer list, the file, the call."""
-    answer = [size for lent, _, size in CALLS[call.name][1] if lent == "answer"]
-    if answer and call.sizes["answer"] < answer[0]:
-        raise Refused(ANSWER_TOO_SHORT)
-    if table is not None and table.refused:
+    """The refusals in their order: a list without which it cannot begin, the file or the table, the call. The look asks nothing of the table."""
+    if not begins(call):
+        raise Refused(LIST_TOO_SHORT)
+    if table is not None and table.refused and call.name != "look":
         raise table.refused
     return OWED[call.name](table, call)
 
@@ -182,7 +203,7 @@ def faults_of(table, call):
     try:
         refusal, (lists, faults) = None, owed(table, call)
     except Refused as refused:
-        refusal, lists, faults = Refusal(refused.number, refused.record, refused.second), {}, []
+        refusal, lists, faults = Refusal(refused.number, refused.record), {}, []
     if call.refusal() != refusal:
         faults = [f"expected {refusal or 'done'}, returned {call.refusal() or 'done'}"]
         return refusal, faults + [f"{lent} is changed" for lent in call.changed({})]

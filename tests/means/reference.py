@@ -17,13 +17,12 @@ from means.transducer import (FILE_SEEN, MAX_CODE, MAX_OUTPUTS, MAX_STATES, MAX_
 
 
 class Refused(Exception):
-    """A refusal: its number, the number of the record in which the fault is, and whether that is a record of the second of two files."""
+    """A refusal: its number, and the number of the record in which the fault is."""
 
-    def __init__(self, number, record=0, second=False):
-        super().__init__(number, record, second)
+    def __init__(self, number, record=0):
+        super().__init__(number, record)
         self.number = number
         self.record = record
-        self.second = second
 
 
 NUMBER = re.compile(rb" *(0|[1-9][0-9]*)")

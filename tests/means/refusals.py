@@ -6,7 +6,6 @@ from means.programs import ROOT
 
 GROUP = "refusal numbers"
 UNUSED = 12  # no refusal has this number any more, and none gets it again
-NOT_IN_HEADER = 8  # for table values that were not read from a file: the library has no call for one
 CODE, DEFINITIONS, HEADER = "crates/transducer/src/refusals.rt", "crates/transducer/specs/Refusals.antt", "include/yotselina.h"
 MANUAL, DESK_TOOL = "docs/MANUAL.md", "cli/desktool/refusals.py"
 # where the numbers stand, and how: those of the constants with their names
@@ -14,6 +13,10 @@ CONSTANTS = {
     CODE: r"^pub const (\w+): u8 = (\d+);$",
     DEFINITIONS: r"^abbrev pub (\w+) : ℕ\n\1 = (\d+)$",
 }
+NAMED = "#define YOTSELINA_{} {}\n"  # each of them in the header, and its text
+TEXT = "    case YOTSELINA_{}:\n"
+OWN = 100  # of no document: the header has a name of its own for it, since it is said of held tables and lines, too
+OWN_NAME = "LIST_TOO_SHORT"
 LISTS = {
     MANUAL: r"^\| (\d+)(?:, record)? \| .* \| .* \|$",
     HEADER: r"^ \*     (\d+) +\S",
@@ -24,6 +27,11 @@ SENTENCES = r"^ \* (?:Returns .* )?Refusals: ((?:.|\n)*?)\n \* (?:Stack|Writes)"
 
 def found(place, pattern):
     return re.findall(pattern, (ROOT / place).read_text(encoding="utf-8"), re.MULTILINE)
+
+
+def numbers_of_code():
+    """The numbers that refusals have in the code."""
+    return [int(number) for _, number in found(CODE, CONSTANTS[CODE]) if int(number) != UNUSED]
 
 
 def in_definitions(name):
@@ -49,16 +57,19 @@ def faults_of_numbers(numbers, expected):
 
 
 def check_numbers(findings):
-    """The constants of the code and the definitions are the same, and their numbers stand in each of the lists; the header says each of some call."""
+    """The constants of the code, the definitions and the header are the same, and their numbers stand in each of the lists; the header says each of
+    some call, and has a text for it."""
     constants = {place: [(name, int(number)) for name, number in found(place, pattern)] for place, pattern in CONSTANTS.items()}
     other = sorted({(in_definitions(name), number) for name, number in constants[CODE]} ^ set(constants[DEFINITIONS]))
     findings.check_apart(GROUP, [f"{name} = {number} stands in one only" for name, number in other], b"", f"{CODE} and {DEFINITIONS}")
+    header = (ROOT / HEADER).read_text(encoding="utf-8")
+    names = [(OWN_NAME if number == OWN else name, number) for name, number in constants[CODE] if number != UNUSED]
+    missing = [name for name, number in names if NAMED.format(name, number) not in header or TEXT.format(name) not in header]
+    findings.check_apart(GROUP, [f"no constant or no text: {missing}"] if missing else [], b"", f"{CODE} and {HEADER}")
     places = {place: [number for _, number in named] for place, named in constants.items()}
     places |= {place: [int(number) for number in found(place, pattern)] for place, pattern in LISTS.items()}
     places |= {f"{HEADER}, of the calls": said_of_calls()}
-    numbers = set(places[CODE]) - {UNUSED}
     for place, there in places.items():
-        expected = numbers - {NOT_IN_HEADER} if place.startswith(HEADER) else numbers
-        findings.check_apart(GROUP, faults_of_numbers(there, expected), b"", place)
+        findings.check_apart(GROUP, faults_of_numbers(there, set(numbers_of_code())), b"", place)
         for _ in there:
             findings.count(GROUP, f"{place}:")

@@ -2,11 +2,16 @@
 
 from means import generate
 from means.generate import codes, cycle, deterministic, mostly_alive, random_lines, some
+from means.held import held_of
 from means.transducer import MAX_OUTPUTS, MAX_STATES, MAX_TRANSITIONS, Transducer, Transition, table_file
 
 
 def files_of(pair):
     return tuple(map(table_file, pair))
+
+
+def held_pair(pair):
+    return tuple(map(held_of, pair))
 
 
 def one_code_each(random, first, second, silent):

@@ -17,8 +17,13 @@ def run_stack(folder, *linked):
     names = [folder / name for name in ("table", "first", "second")]
     for name, transducer in zip(names, (longest_translation()[0], *LARGEST)):
         name.write_bytes(table_file(transducer))
-    complaint = compile_c("gcc", "-std=c99", *STRICT, "-o", folder / "stack", SOURCES / "stack.c", *linked)
+    complaint = compile_c("gcc", "-std=c99", *STRICT, f"-I{SOURCES}", "-o", folder / "stack", SOURCES / "stack.c", *linked)
     return (None, "", complaint) if complaint else run_program(folder / "stack", *names)
+
+
+def guarded(run):
+    """How each call of more than a few pages of stack ends where there is only half of it, and a guard page below."""
+    return dict(re.findall(r"^(\w+) on half of it ends (.*)$", run[1], re.MULTILINE))
 
 
 def stack_of_lists(run):

@@ -4,11 +4,12 @@ with the library's translations."""
 from itertools import product
 
 from means import generate, named, reference
-from means.calls import ANSWERS, FILES, SOME_TABLES, as_note, check, check_known, said_yes, same_refusal
+from means.calls import ANSWERS, SOME_TABLES, TABLES, as_note, check, check_known, said_yes, same_refusal
 from means.compare import randomness, size_name
+from means.held import held_of
 from means.named import table
-from means.owed import table_of
-from means.transducer import MAX_TESTED_INPUT, MAX_TESTED_OUTPUT, table_file
+from means.owed import table_held
+from means.transducer import MAX_TESTED_INPUT, MAX_TESTED_OUTPUT
 
 GROUP = "word test"
 # how many tables of which kind are compared
@@ -28,14 +29,14 @@ def check_reference(findings, read, made, tests):
     findings.check_apart("reference itself, word test", faults, read.content)
 
 
-def compare_translation(library, findings, random, read, word, said):
+def compare_translation(library, findings, random, held, word, said):
     """What is said of some outputs of a word, against the translator lent the most places: yes to its output, on a single table to no other, and to none
     where no path reads the word."""
-    group = f"library, {GROUP} and translator"
-    call = library.call(random, "translate", read.content, word)
+    group, read = f"library, {GROUP} and translator", table_held(held)
+    call = library.call(random, "translate", held, word)
     output = None if call.returned else bytes(call.lent["output"].items(call.lent["answer"].items(1)[0]))
     if output is not None and len(output) <= MAX_TESTED_OUTPUT:
-        said = said | {output: said_yes(library.call(random, "accepts", read.content, word, output))}
+        said = said | {output: said_yes(library.call(random, "accepts", held, word, output))}
     faults = [] if call.returned in (0, UNREAD) else [f"the translator returned {call.returned}"]
     faults += [f"{'yes' if yes else 'no'} to {tuple(asked)}, the translator's output is {output}" for asked, yes in said.items()
                if yes != (asked == output) and (output is None or read.functional or not yes)]
@@ -47,20 +48,20 @@ def compare_table(library, findings, kind, index):
     """Input words and output words for one generated table: what a path reads and writes, and what is nearly that."""
     random = randomness(GROUP, kind, index)
     transducer, _ = KINDS[kind][1](random)
-    read = table_of(table_file(transducer))
+    held = held_of(transducer)
     made = generate.related_words(random, transducer)
     tests = ([made] if made else []) + generate.word_tests(random, transducer)
-    check_reference(findings, read, made, tests)
+    check_reference(findings, table_held(held), made, tests)
     said = {}
     for word, output in tests:
-        call = library.call(random, "accepts", read.content, word, output)
-        check(findings, GROUP, read, call, as_note((word, output)))
+        call = library.call(random, "accepts", held, word, output)
+        check(findings, GROUP, call, as_note((word, output)))
         if not call.returned:
             said.setdefault(word, {})[output] = said_yes(call)
             for what, codes in (("input", word), ("output", output)):
                 findings.count(f"library, {GROUP}, {what} codes of a {'yes' if said_yes(call) else 'no'}", size_name(len(codes)))
     for word, outputs in said.items():
-        compare_translation(library, findings, random, read, word, outputs)
+        compare_translation(library, findings, random, held, word, outputs)
 
 
 # --- known answers ---------------------------------------------------------------------------------------------------
@@ -104,7 +105,7 @@ def compare_known(library, findings):
     random = randomness(GROUP, "known")
     for title, transducer, word, *outputs in KNOWN:
         for answer, output in [(answer, output) for answer, some in zip((1, 0), outputs) for output in some]:
-            call = library.call(random, "accepts", table_file(transducer), bytes(word), bytes(output))
+            call = library.call(random, "accepts", held_of(transducer), bytes(word), bytes(output))
             check_known(findings, f"{GROUP}, known answers", call, (answer,), f"{title}: {word}, {output}")
 
 
@@ -121,14 +122,13 @@ def words_with_faults(limit, number):
 
 
 def compare_refusals(library, findings):
-    """Every refusal, and every two and more of them at once: the answer list, the file, 13, 10, 14."""
+    """Every refusal, and every two and more of them at once: the answer list, the table, 13, 10, 14."""
     random = randomness(GROUP, "refusals")
     inputs, outputs = list(words_with_faults(MAX_TESTED_INPUT, 10)), list(words_with_faults(MAX_TESTED_OUTPUT, 14))
-    for (places, short), (content, broken), (word, of_word), (output, of_output) in product(ANSWERS, FILES, inputs, outputs):
-        broken_limits = [(number, 0) for number in (13, 10, 14) if number in of_word | of_output]
-        first = ([(short, 0)] if short else []) + ([broken] if broken else []) + broken_limits
-        call = library.call(random, "accepts", content, word, output, answer=places)
-        if first:
-            same_refusal(findings, f"{GROUP}, which refusal goes first", call, *first[0], as_note((word, output)))
+    for (places, short), (held, broken), (word, of_word), (output, of_output) in product(ANSWERS, TABLES, inputs, outputs):
+        refusals = [number for number in (short, broken) if number] + [number for number in (13, 10, 14) if number in of_word | of_output]
+        call = library.call(random, "accepts", held, word, output, answer=places)
+        if refusals:
+            same_refusal(findings, f"{GROUP}, which refusal goes first", call, refusals[0], note=as_note((word, output)))
         else:
-            check(findings, f"{GROUP}, at the limits", table_of(content), call, as_note((word, output)))
+            check(findings, f"{GROUP}, at the limits", call, as_note((word, output)))

@@ -1,4 +1,5 @@
-"""The library's edits (yotselina_append, yotselina_remove), and the look (yotselina_look) at what edits, or edits and joins, have made."""
+"""The library's edits (yotselina_append, yotselina_remove), and the look (yotselina_look) at what edits, or edits and joins, have made; each table that
+is made is written, and read again."""
 
 from itertools import product
 
@@ -7,8 +8,8 @@ from means.calls import as_note, check
 from means.compare import randomness
 from means.editing import (GROUP, NAMED, REFUSED, Edited, compare_each, compare_known, compare_list, compare_looks, compare_refusals,
                            compare_ways)
+from means.held import held_of
 from means.library import Library, build
-from means.owed import table_of
 from means.settings import share
 from means.transducer import LINE_PLACES, MAX_CODE, MAX_OUTPUTS, MAX_STATES, MAX_TRANSITIONS, Transition, places_of, table_file
 from means.workers import spread
@@ -42,27 +43,26 @@ def compare_bytes(library, findings, line):
     """Every byte at each place of a line."""
     random = randomness(GROUP, "bytes", line)
     for name in ("table P", "no lines"):
-        content = table_file(NAMED[name])
+        held = held_of(NAMED[name])
         for at, value in product(range(LINE_PLACES), range(256)):
             places = lines.changed(places_of(line), at, value)
-            check(findings, f"{GROUP}, every byte", table_of(content), library.call(random, "append", content, places), as_note([places]))
+            check(findings, f"{GROUP}, every byte", library.call(random, "append", held, places), as_note([places]))
 
 
 # --- edits and joins in any order ------------------------------------------------------------------------------------
 
 
 class Made(Edited):
-    """A file that edits and joins make, in any order."""
+    """A table that edits and joins make, in any order."""
 
     group = "makings"
 
     def join(self, what, pair):
-        """The file joined with another that stands before it or behind it: like an edit."""
-        files = tuple(map(table_file, pair))
-        call = self.library.call(self.random, "join", *files)
-        note = f"{what}\nthe second file:\n{files[1].decode()}"
+        """The table joined with another that stands before it or behind it: like an edit."""
+        call = self.library.call(self.random, "join", *(self.held if one is self.table else held_of(one) for one in pair))
+        note = f"{what}\nthe second file:\n{table_file(pair[1]).decode()}"
         self.findings.count(f"library, {self.group}, join", f"{what}, {'refused' if call.returned else 'taken'}")
-        if not check(self.findings, f"{self.group}, join", table_of(files[0]), call, note):
+        if not check(self.findings, f"{self.group}, join", call, note):
             return False
         return bool(call.returned) or self.take(call, reference.join(*pair), note)
 
@@ -75,10 +75,10 @@ class Made(Edited):
             done = self.join("another before it", series.put_before(self.random, self.table))
         else:
             done = self.edit(*lines.any_edit(self.random, self.table, growing))
-        calls = [self.library.call(self.random, name, self.content) for name in ("look", "useful_states")]
+        calls = [self.library.call(self.random, name, self.held) for name in ("look", "useful_states")]
         shown, found = ((call.returned, call.lent["flags"].items(MAX_STATES)) for call in calls)
         faults = [] if shown == found else [f"the look shows {shown}, yotselina_useful_states {found}"]
-        self.findings.check(f"library, {self.group}, look and useful_states show the same", faults, self.content)
+        self.findings.check(f"library, {self.group}, look and useful_states show the same", faults, self.held)
         return done and not faults
 
 

@@ -46,7 +46,7 @@ def try_sizes(_, findings):
 def try_stack(folder, findings):
     """The stack that each call takes is no more than the header says, and a difference takes the same for long lists; the figures are printed."""
     header = text_of("include", "yotselina.h")
-    promises = re.findall(r"^ \* Stack: ([\d,]+) bytes\.\n \*/\nuint32_t (\w+)\(", header, re.MULTILINE)
+    promises = re.findall(r"^ \* Stack: ([\d,]+) bytes\.\n \*/\nYOTSELINA_CALL (\w+)\(", header, re.MULTILINE)
     promised = {name: int(number.replace(",", "")) for number, name in promises}
     run = run_stack(folder, find_archive())
     taken = {name: int(number) for name, number in re.findall(r"^(\w+) (\d+)$", run[1], re.MULTILINE)}

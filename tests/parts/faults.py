@@ -1,4 +1,4 @@
-"""Seeded faults: the library with one function made wrong in C, which the comparisons of the parts library, wordtest, join, edits, alike and
+"""Seeded faults: the library with one function made wrong in C, which the comparisons of the parts library, held, wordtest, join, edits, alike and
 threads must find."""
 
 import subprocess
@@ -7,9 +7,10 @@ from ctypes import c_uint8, c_uint16, c_uint64
 from itertools import product
 from pathlib import Path
 
-from means import alikes, atonce, differences, editing, everycall, joins, wordtests
+from means import alikes, atonce, differences, editing, everycall, heldtables, joins, wordtests
 from means.findings import Findings
-from means.library import BY_VALUE, CALLS, SOURCES, Library, build, compile_c, link_shared
+from means.held import HELD
+from means.library import BY_VALUE, CALLS, EDITS, SOURCES, Library, build, compile_c, link_shared
 from means.named import WHOLE
 from means.stack import run_stack, stack_of_lists
 from means.tools import Missing, debian
@@ -24,7 +25,6 @@ TABLES, MIXED = 2, 10
 HELPERS = tuple(SOURCES / name for name in ("forgets.c", "repeats.c", "misjoins.c", "misedits.c", "mislooks.c"))
 
 NO_CODE = "not_all_codes({0}, {0}_length)"
-TAKEN = "answer_length && !yotselina_check(first, first_length) && !yotselina_check(second, second_length)"  # what misjoins.c asks for
 # the rules of a join that misjoins.c can have wrong
 MISJOINS = (
     "silent lines step together", "the code between is ignored", "no step alone of the first", "no step alone of the second",
@@ -32,44 +32,51 @@ MISJOINS = (
     "reached pairs are counted", "numbered by the second state", "no state without a joined pair", "no steps to the same pair",
     "a line reads what the second reads", "the second's line first", "no line comes last", "15 for joined states only", "15 after 16 and 17",
     "17 before 16", "33 pairs are taken", "32 pairs are refused", "257 lines are taken", "256 lines are refused", "16 bits count the lines",
+    "no state is said to be useful",
 )
-FILE_TAKEN = "answer_length && !yotselina_check(file, file_length)"  # what misedits.c asks for
 # the rules of appending and of removing that misedits.c can have wrong
-LOST = ("the start states are lost", "the final states are lost")
+MISEDITS = ("the start states are lost", "the final states are lost", "the useful states stay", "the bytes of the count are exchanged")
 MISAPPENDS = (
-    "before the last", "as the first", "a line that is there is not appended", "the count is not raised", *LOST, "state n is left",
+    "before the last", "as the first", "a line that is there is not appended", "the count is not raised", *MISEDITS, "state n is left",
     "state n is entered", "input 251 is taken", "a count of 9 is taken for 8", "output 0 is taken", "output 251 is taken",
     "anything may stand beyond the count", "anything may stand in the last place", "a thirteenth place is looked at", "eleven places are taken",
-    "256 lines are refused", "257 lines are taken", "17 before 19", "7 before 19", "7 before 17",
+    "256 lines are refused", "257 lines are taken", "17 before 19", "a refused line is left behind the count",
 )
 MISREMOVES = (
     "the line after is removed", "the line before is removed", "the last line takes its place", "the last line stays", "the count is not lowered",
-    *LOST, "its repeats are removed", "the number is cut to a byte", "the number is cut to 32 bits", "the count removes the last line",
-    "the last line cannot be removed", "7 before 18",
+    *MISEDITS, "its repeats are removed", "the number is cut to a byte", "the number is cut to 32 bits", "the count removes the last line",
+    "the last line cannot be removed", "the last line is left behind the count",
 )
 MISLOOKS = ("the start states", "the reached states", "the states that finish", "the set before the edit")  # what mislooks.c can show
 
 
 def misjoined(rule):
     """The fault that a join has this rule wrong."""
-    return rule, "join", f'if ({TAKEN}) return misjoin("{rule}", first, second, out, out_length, answer);', ""
+    taken = f"is_taken(first, first_length) && is_taken(second, second_length) && result_length >= {HELD}"
+    return rule, "join", f'if ({taken}) return misjoin("{rule}", first, second, result);', ""
 
 
 def misappended(rule):
     """The fault that appending has this rule wrong."""
-    return rule, "append", f'if ({FILE_TAKEN}) return misappend("{rule}", file, file_length, line, line_length, out, out_length, answer);', ""
+    return rule, "append", f'if (is_taken(table, table_length)) return misappend("{rule}", table, line, line_length);', ""
 
 
 def misremoved(rule):
     """The fault that removing has this rule wrong."""
-    return rule, "remove", f'if ({FILE_TAKEN}) return misremove("{rule}", file, file_length, number, out, out_length, answer);', ""
+    return rule, "remove", f'if (is_taken(table, table_length)) return misremove("{rule}", table, number);', ""
 
 
 def mislooked(rule):
     """The fault that a look shows something else."""
-    return rule, "look", "", f'if (!r) mislook("{rule}", file, file_length, flags);'
+    return rule, "look", "", f'if (!r) mislook("{rule}", table, flags);'
 
 
+# what a wrong function says first of a table that it refuses, and a table of its own to put right what it must refuse
+BROKEN = f"table_length >= {HELD} && !is_taken(table, table_length)"
+OWN = f"uint8_t own[{HELD}]; if (table_length >= {HELD}) {{{{ copy(own, table, {HELD}); {{0}} table = own; }}}}"
+SHORT = f"table_length += table_length == {HELD - 1};"
+LONGER = f"if (table_length > {HELD}) return 100;"
+TWO_CODES = "if ({0}[99 + 12 * k + 3] > 1) {1}"
 # what is wrong, the function, what it does before and after the right one is called (r is what that returned)
 FAULTS = (
     ("single for everything", "verdict", "", "if (!r && answer[0]) for (int i = 0; i < 7; i++) if (i != 1) answer[i] = 0;"),
@@ -85,43 +92,65 @@ FAULTS = (
     ("a refused call writes", "translate", "", "if (r == 11) answer[0] ^= 1;"),
     ("a refused call writes in the last place", "verdict", "", "if (r == 7 && output_y_length) output_y[output_y_length - 1] ^= 1;"),
     ("what is read is changed", "translate", "", "if (!r && input_length) ((uint8_t *)input)[0] ^= 1;"),
-    ("the record is lost", "useful_states", "", "r &= 0xffff;"),
+    ("the table is changed", "translate", "", f"if (!r) ((uint8_t *)table)[{HELD - 1}] ^= 1;"),
+    ("the table's flags are changed", "useful_states", "", "if (!r) ((uint8_t *)table)[96] ^= 1;"),
     ("no record for the last number", "check", "", "if (YOTSELINA_NUMBER(r) == 6) r = 6;"),
-    ("the file is refused before the answer list", "write", "uint32_t f = yotselina_check(file, file_length);", "if (r == 100 && f) r = f;"),
-    ("7 before the file's number", "useful_pairs", "if (answer_length && flags_length < 1024) return 7;", ""),
+    ("another version", "version", "", "r++;"),
+    ("8 before 100", "write", "", f"if (r == 100 && {BROKEN}) r = 8;"),
+    ("8 before 100", "verdict", "", f"if (r == 100 && {BROKEN}) r = 8;"),
+    ("7 before 8", "useful_pairs", "", "if (r == 8 && flags_length < 1024) r = 7;"),
+    ("7 before 100", "look", "", "if (r == 100 && flags_length < 32) r = 7;"),
+    ("9 before 8", "translate", "", "if (r == 8 && input_length > 255) r = 9;"),
     ("7 before 11", "translate", "", "if (r == 11 && !output_length) r = 7;"),
     ("10 before 9", "translate", "", "if (r == 9 && !input[input_length - 1]) r = 10;"),
+    ("7 for memory that is too short", "useful_states", "", f"if (r == 100 && table_length < {HELD}) r = 7;"),
+    ("one place short of the table is taken", "verdict", SHORT, ""),
+    ("one place short of the table is taken", "useful_states", SHORT, ""),
+    ("longer memory is refused", "write", LONGER, ""),
+    ("longer memory is refused", "look", LONGER, ""),
     ("one place short is taken", "verdict", "path_b_length += path_b_length == 2046;", ""),
     ("exactly enough is refused", "write", "out_length -= out_length > 0;", ""),
     ("a flag too many", "useful_pairs", "", "if (!r) flags[1023] = 1;"),
     ("a flag that is neither 0 nor 1", "useful_states", "", "if (!r) flags[0] *= 2;"),
-    ("the record is lost", "look", "", "r &= 0xffff;"),
     ("a flag that is neither 0 nor 1", "look", "", "if (!r) flags[0] *= 2;"),
     ("31 places are taken", "look", "",
-     "uint8_t all[32]; if (r == 7 && flags_length == 31) { r = right(file, file_length, all, 32); copy(flags, all, 31); }"),
-    ("a look at a refused file writes", "look", "", "if (r && r != 7 && flags_length) flags[0] ^= 1;"),
+     "uint8_t all[32]; if (r == 7 && flags_length == 31) { r = right(table, table_length, all, 32); copy(flags, all, 31); }"),
+    ("a refused look writes", "look", "", "if (r && flags_length) flags[0] ^= 1;"),
     ("the last byte is not counted", "write", "", "if (!r) answer[0]--;"),
     ("the sides are exchanged", "difference", "", "if (!r && (answer[0] == 1 || answer[0] == 2)) answer[0] = 3 - answer[0];"),
     ("only the first 65,536 codes are compared", "difference", "if (x_length > 65536 && y_length > 65536) x_length = y_length = 65536;", ""),
     ("only the first 999,999 codes are compared", "difference", "if (x_length > 999999 && y_length > 999999) x_length = y_length = 999999;", ""),
     ("a byte over 250 ends a list", "difference", "size_t n = 0; while (n < x_length && x[n] < 251) n++; x_length = n;", ""),
     ("a list that is compared is changed", "difference", "", "if (!r && y_length) ((uint8_t *)y)[y_length - 1] ^= 1;"),
+    ("the record is lost", "read", "", "r &= 0xffff;"),
+    ("one place short is taken", "read", SHORT, ""),
+    ("longer memory is refused", "read", LONGER, ""),
+    ("a place behind the table", "read", "", f"if (!r && table_length > {HELD}) table[{HELD}] ^= 1;"),
+    ("a refused read writes the blank table", "read", "",
+     f"if (r && r != 100) {{ for (int i = 0; i < {HELD}; i++) table[i] = i == 0; }}"),
+    ("a refused read writes the last place", "read", "", "if (r && table_length) table[table_length - 1] ^= 1;"),
+    ("the file's number before 100", "read", "", "uint32_t f = yotselina_check(file, file_length); if (r == 100 && f) r = f;"),
+    ("the useful states are not worked out", "read", "", "if (!r) for (int i = 65; i < 97; i++) table[i] = 0;"),
+    ("every state is useful", "read", "", "if (!r) for (int i = 0; i < table[0]; i++) table[65 + i] = 1;"),
+    ("the bytes of the count are exchanged", "read", "", "if (!r) { uint8_t low = table[97]; table[97] = table[98]; table[98] = low; }"),
+    ("the last line is not cleared", "read", f"uint8_t last = table_length >= {HELD} ? table[{HELD - 1}] : 0;",
+     f"if (!r && !table[98]) table[{HELD - 1}] = last;"),
     ("yes for everything", "accepts", "", "if (!r) answer[0] = 1;"),
     ("no for everything", "accepts", "", "if (!r) answer[0] = 0;"),
     ("yes where an output only begins with what is asked", "accepts", "",
      "uint8_t more[128]; if (!r) for (size_t i = 0; i < output_length; i++) more[i] = output[i]; "
      "for (int c = 1; !r && !answer[0] && output_length < 127 && c <= 250; c++) "
-     "{ more[output_length] = c; right(file, file_length, input, input_length, more, output_length + 1, answer, answer_length); }"),
+     "{ more[output_length] = c; right(table, table_length, input, input_length, more, output_length + 1, answer, answer_length); }"),
     ("yes where what is asked only begins with an output", "accepts", "",
-     "if (!r && !answer[0] && output_length) right(file, file_length, input, input_length, output, output_length - 1, answer, answer_length);"),
+     "if (!r && !answer[0] && output_length) right(table, table_length, input, input_length, output, output_length - 1, answer, answer_length);"),
     ("the position in the output is forgotten", "accepts", "",
-     "if (!r) answer[0] = forgets(file, input, input_length, output, output_length);"),
+     "if (!r) answer[0] = forgets(table, input, input_length, output, output_length);"),
     ("11 for a word that is not accepted", "accepts", "uint64_t held = answer_length ? answer[0] : 0;",
      "if (!r && !answer[0]) { r = 11; answer[0] = held; }"),
     ("10 before 13", "accepts", "", f"if (r == 13 && {NO_CODE.format('input')}) r = 10;"),
     ("14 before 13", "accepts", "", f"if (r == 13 && {NO_CODE.format('output')}) r = 14;"),
     ("14 before 10", "accepts", "", f"if (r == 10 && {NO_CODE.format('output')}) r = 14;"),
-    ("13 before the file's number", "accepts", "if (answer_length && input_length > 63) return 13;", ""),
+    ("13 before 8", "accepts", "", "if (r == 8 && input_length > 63) r = 13;"),
     ("the output's length after the input's codes", "accepts", "", f"if (r == 13 && input_length < 64 && {NO_CODE.format('input')}) r = 10;"),
     ("64 codes are taken", "accepts", "input_length -= input_length == 64;", ""),
     ("127 codes are refused", "accepts", "output_length += output_length == 127;", ""),
@@ -132,81 +161,100 @@ FAULTS = (
     ("the output word is changed", "accepts", "", "if (!r && output_length) ((uint8_t *)output)[output_length - 1] ^= 1;"),
     ("the tables are exchanged", "join",
      "const uint8_t *f = first; first = second; second = f; size_t n = first_length; first_length = second_length; second_length = n;", ""),
-    ("the length is not written", "join", "uint64_t held = answer_length ? answer[0] : 0;", "if (!r) answer[0] = held;"),
-    ("the last byte is not written", "join", "uint8_t held[13300]; if (out_length < 13300) copy(held, out, out_length);",
-     "if (!r) out[answer[0] - 1] = held[answer[0] - 1];"),
-    ("a byte behind the joined file", "join", "", "if (!r && answer[0] < out_length) out[answer[0]] ^= 1;"),
-    ("a byte beyond the list", "join", "", "if (!r) out[out_length] ^= 1;"),
-    ("a refused join writes the blank table", "join", "", 'if (r >= 15 && r <= 17 && out_length > 17) copy(out, "T   1   0   0   0\\n", 18);'),
-    ("a refused join writes what there is room for", "join", "", "if (r == 7 && out_length) out[0] = 'T';"),
-    ("a refused join answers 0", "join", "", "if (r && answer_length) answer[0] = 0;"),
-    ("a file that is joined is changed", "join", "", "if (!r) ((uint8_t *)second)[second_length - 1] ^= 1;"),
-    ("the second file is not told from the first", "join", "", "r &= 0x7fffffff;"),
-    ("the first file is taken for the second", "join", "", "if (r && YOTSELINA_NUMBER(r) < 7) r |= 0x80000000;"),
-    ("15 is said of the second file", "join", "", "if (r == 15) r |= 0x80000000;"),
-    ("the second's record is lost", "join", "", "if (r >> 31) r &= 0x8000ffff;"),
-    ("the first's record is said of the second", "join", "uint32_t f = yotselina_check(second, second_length);",
-     "if (r && YOTSELINA_NUMBER(r) < 7 && !(r >> 31) && f) r = YOTSELINA_NUMBER(r) | (f & 0x7fff0000);"),
-    ("the second file is looked at first", "join", "uint32_t f = yotselina_check(second, second_length);",
-     "if (r && YOTSELINA_NUMBER(r) < 7 && f) r = f | 0x80000000;"),
-    ("the files are looked at before the answer list", "join", "uint32_t f = yotselina_check(first, first_length);", "if (r == 100 && f) r = f;"),
-    ("7 before the second file's number", "join", "", "if (r >> 31 && !out_length) r = 7;"),
-    ("7 before 15", "join", "", "if (r == 15 && !out_length) r = 7;"),
-    ("7 before 17", "join", "", "if (r == 17 && !out_length) r = 7;"),
-    ("one place short is taken", "join", "out_length++;", ""),
-    ("13,202 places are asked for", "join", "", "if (!r && out_length < 13202) r = 7;"),
+    ("the last place is not written", "join", f"uint8_t last = result_length >= {HELD} ? result[{HELD - 1}] : 0;",
+     f"if (!r && !result[98]) result[{HELD - 1}] = last;"),
+    ("a place behind the joined table", "join", "", f"if (!r && result_length > {HELD}) result[{HELD}] ^= 1;"),
+    ("a byte beyond the list", "join", "", "if (!r) result[result_length] ^= 1;"),
+    ("a refused join writes the blank table", "join", "", f"if (r >= 15 && r <= 17) for (int i = 0; i < {HELD}; i++) result[i] = i == 0;"),
+    ("a refused join writes what there is room for", "join", "", "if (r == 100 && result_length) result[0] ^= 1;"),
+    ("a join that is refused with 8 writes", "join", "", "if (r == 8) result[0] ^= 1;"),
+    ("a table that is joined is changed", "join", "", "if (!r) ((uint8_t *)second)[second_length - 1] ^= 1;"),
+    ("8 of the first before 100", "join", "", f"if (r == 100 && first_length >= {HELD} && !is_taken(first, first_length)) r = 8;"),
+    ("8 of the second before 100", "join", "", f"if (r == 100 && second_length >= {HELD} && !is_taken(second, second_length)) r = 8;"),
+    ("15 before 8 of the second", "join", "", f"for (int k = 0; r == 8 && k < 256; k++) {TWO_CODES.format('first', 'r = 15;')}"),
+    ("one place short of the result is taken", "join", f"result_length += result_length == {HELD - 1};", ""),
+    ("one place short of the second is taken", "join", f"second_length += second_length == {HELD - 1};", ""),
+    ("longer memory is refused", "join", f"if (result_length > {HELD}) return 100;", ""),
     *map(misjoined, MISJOINS),
-    ("a refused append writes", "append", "", "if ((r == 17 || r == 19) && out_length) out[0] ^= 1;"),
-    ("the last byte is not counted", "append", "", "if (!r) answer[0]--;"),
+    ("a refused append writes", "append", "", f"if (r == 17 || r == 19) table[{HELD - 1}] ^= 1;"),
+    ("an append that is refused with 8 writes", "append", "", "if (r == 8) table[65] ^= 1;"),
     ("the line that is lent is changed", "append", "", "if (!r) ((uint8_t *)line)[11] ^= 1;"),
-    ("13,202 places are asked for", "append", "", "if (!r && out_length < 13202) r = 7;"),
-    ("19 before the file's number", "append", "", "if (YOTSELINA_NUMBER(r) < 7 && r && line_length > 11 && line[3] > 8) r = 19;"),
-    ("a refused removal answers 0", "remove", "", "if (r == 18) answer[0] = 0;"),
-    ("a byte behind the edited file", "remove", "", "if (!r && answer[0] < out_length) out[answer[0]] ^= 1;"),
-    ("the record is lost", "remove", "", "if (r && r != 100) r = YOTSELINA_NUMBER(r);"),
-    ("one place short is taken", "remove", "out_length++;", ""),
+    ("a place behind the edited table", "append", "", f"if (!r && table_length > {HELD}) table[{HELD}] ^= 1;"),
+    ("19 before 8", "append", "", "if (r == 8 && line_length > 11 && line[3] > 8) r = 19;"),
+    ("17 before 8", "append", "", "if (r == 8 && table[98] == 1) r = 17;"),
+    ("8 before 100 of the line", "append", "", f"if (r == 100 && {BROKEN}) r = 8;"),
+    ("7 for a line that is too short", "append", "", "if (r == 100 && line_length < 12) r = 7;"),
+    ("one place short of the table is taken", "append", SHORT, ""),
+    ("longer memory is refused", "append", LONGER, ""),
+    ("a refused removal writes", "remove", "", "if (r == 18) table[97] ^= 1;"),
+    ("a place behind the edited table", "remove", "", f"if (!r && table_length > {HELD}) table[{HELD}] ^= 1;"),
+    ("18 before 8", "remove", "", "if (r == 8 && number > 255) r = 18;"),
+    ("one place short of the table is taken", "remove", SHORT, ""),
+    ("longer memory is refused", "remove", LONGER, ""),
     *map(misappended, MISAPPENDS),
     *map(misremoved, MISREMOVES),
 )
-# looks that show something else than the useful states: those at files that edits have made must find them
+# functions that take what is held wrongly, or lose what is held: the comparisons of every byte must find them
+FLAG_OF_2 = OWN.format("for (int i = 1; i < 97; i++) own[i] = own[i] == 2 ? 1 : own[i];")
+SET_RIGHT = OWN.format("put_right(own);")
+BEHIND_COUNT = OWN.format("for (int i = 99 + 12 * (own[97] + 256 * own[98]); i < 3171; i++) own[i] = 0;")
+BEHIND_OUTPUTS = OWN.format("for (int k = 0; k < 256; k++) for (int i = own[102 + 12 * k]; i < 8; i++) own[103 + 12 * k + i] = 0;")
+STATES_BEYOND = OWN.format("for (int i = own[0]; i < 32; i++) own[1 + i] = own[33 + i] = own[65 + i] = 0;")
+UPPER_BYTE = OWN.format("own[98] = own[98] & 1;")
+HELD_WRONGLY = (
+    *((f"{what} in {name}", name, put_right, "") for name in ("write", "verdict", "useful_states") for what, put_right in (
+        ("a flag of 2 is taken for 1", FLAG_OF_2), ("the set is not compared", SET_RIGHT), ("anything may stand beyond the count", BEHIND_COUNT),
+        ("anything may stand beyond the outputs", BEHIND_OUTPUTS), ("states beyond the number are not looked at", STATES_BEYOND),
+        ("of the count's upper byte one bit is looked at", UPPER_BYTE))),
+    ("the set is not compared", "translate", SET_RIGHT, ""),
+    ("the set is not compared", "accepts", SET_RIGHT, ""),
+    ("the set is not compared", "useful_pairs", SET_RIGHT, ""),
+    ("the set is put right", "append", f"if (table_length >= {HELD}) put_right(table);", ""),
+    ("a removal that is refused puts the set right", "remove", "", "if (r == 8) put_right(table);"),
+    ("8 is said by the look", "look", "", "if (!r && !is_taken(table, table_length)) r = 8;"),
+    ("a flag of 2 is shown as 1", "look", "", "if (!r) for (int i = 0; i < 32; i++) if (table[65 + i] == 2) flags[i] = 1;"),
+    ("a flag of 2 is shown as 2", "look", "", "if (!r) for (int i = 0; i < 32; i++) if (table[65 + i] == 2) flags[i] = 2;"),
+    ("a look puts the set right", "look", "", "if (!r) put_right((uint8_t *)table);"),
+    mislooked("the set is worked out"),
+    ("the first table is not looked at for 8", "join", "uint8_t own[3171]; if (first_length >= 3171) { copy(own, first, 3171); put_right(own); first = own; }",
+     ""),
+    ("the second table is not looked at for 8", "join",
+     "uint8_t own[3171]; if (second_length >= 3171) { copy(own, second, 3171); put_right(own); second = own; }", ""),
+)
+# looks that show something else than the useful states: those at tables that edits have made must find them
 LOOKS = tuple(map(mislooked, MISLOOKS))
-# functions that answer otherwise where a line stands in the file twice: the comparisons of alikes.py must find them
+# functions that answer otherwise where a table has a line twice: the comparisons of alikes.py must find them
 REPEATS = (
-    ("a repeat makes a table split", "verdict", "", "if (!r && repeats(file, file_length)) answer[0] = 1;"),
-    ("a repeat counts in u", "verdict", "", "if (!r) answer[1] += repeats(file, file_length);"),
-    ("a word is not read where a line is repeated", "translate", "", "if (!r && repeats(file, file_length)) r = 11;"),
-    ("a repeat makes a useful pair more", "useful_pairs", "", "if (!r) answer[0] += repeats(file, file_length);"),
-    ("a repeat makes a state useless", "useful_states", "", "if (!r && repeats(file, file_length)) flags[0] = 0;"),
-    ("a repeat turns a yes into a no", "accepts", "", "if (!r && repeats(file, file_length)) answer[0] = 0;"),
+    ("a repeat makes a table split", "verdict", "", "if (!r && repeats(table)) answer[0] = 1;"),
+    ("a repeat counts in u", "verdict", "", "if (!r) answer[1] += repeats(table);"),
+    ("a word is not read where a line is repeated", "translate", "", "if (!r && repeats(table)) r = 11;"),
+    ("a repeat makes a useful pair more", "useful_pairs", "", "if (!r) answer[0] += repeats(table);"),
+    ("a repeat makes a state useless", "useful_states", "", "if (!r && repeats(table)) flags[0] = 0;"),
+    ("a repeat turns a yes into a no", "accepts", "", "if (!r && repeats(table)) answer[0] = 0;"),
     ("a repeat is not written", "write", "", "if (!r) answer[0] = without_repeats(out, answer[0]);"),
-    ("a repeat is not joined", "join", "", "if (!r) answer[0] = without_repeats(out, answer[0]);"),
-    ("a repeat is not appended", "append", "", "if (!r) answer[0] = without_repeats(out, answer[0]);"),
-    ("a repeat is removed, too", "remove", "", "if (!r) answer[0] = without_repeats(out, answer[0]);"),
+    ("a repeat is not joined", "join", "", "if (!r) drop_repeats(result);"),
+    ("a repeat is not appended", "append", "", "if (!r) drop_repeats(table);"),
+    ("a repeat is removed, too", "remove", "", "if (!r) drop_repeats(table);"),
 )
 # functions that are wrong about bytes behind the last record: the comparisons of everycall.py that are about them must find them
 TOO_LONG = f"file_length > {MAX_FILE} && YOTSELINA_NUMBER(r) == 6"
 LONGEST_REFUSED = f"if (!r && file_length == {MAX_FILE}) r = 321 << 16 | 6;"
-CUT = f"if ({{0}}_length > {MAX_FILE}) {{0}}_length = {MAX_FILE};"
+CUT = f"if (file_length > {MAX_FILE}) file_length = {MAX_FILE};"
 BEHIND = (
     ("6 is not said of a file that is too long", "check", "", f"if ({TOO_LONG}) r = 0;"),
-    ("12 is said of a file that is too long", "check", "", f"if ({TOO_LONG}) r += 6;"),
-    ("the longest file is refused", "check", "", LONGEST_REFUSED),
-    ("no more than the longest file is looked at", "check", CUT.format("file"), ""),
     ("256 bytes behind are none", "check", "", "if (YOTSELINA_NUMBER(r) == 6 && file_length > 256 && !right(file, file_length - 256)) r = 0;"),
     ("a line end behind is taken", "check", "",
      "if (YOTSELINA_NUMBER(r) == 6 && file[file_length - 1] == 10 && !right(file, file_length - 1)) r = 0;"),
     ("a line behind is taken", "check", "",
      "if (YOTSELINA_NUMBER(r) == 6 && file_length > 18 && file[file_length - 18] == 'L' && !right(file, file_length - 18)) r = 0;"),
-    ("12 is said of a file that is too long", "translate", "", f"if ({TOO_LONG}) r += 6;"),
-    ("the longest file is refused", "useful_pairs", "", LONGEST_REFUSED),
-    ("no more than the longest file is looked at", "write", CUT.format("file"), ""),
-    ("no more than the longest file is looked at, of the second", "join", CUT.format("second"), ""),
-    ("no more than the longest file is looked at", "append", CUT.format("file"), ""),
-    ("the longest file is refused", "remove", "", LONGEST_REFUSED),
+    *((what, name, before, after) for name in ("check", "read") for what, before, after in (
+        ("12 is said of a file that is too long", "", f"if ({TOO_LONG}) r += 6;"), ("the longest file is refused", "", LONGEST_REFUSED),
+        ("no more than the longest file is looked at", CUT, ""))),
+    ("a table is written though bytes are behind", "read", "", f"if (YOTSELINA_NUMBER(r) == 6) for (int i = 0; i < {HELD}; i++) table[i] = i == 0;"),
 )
 # a function that keeps something while it runs: seen only where another thread is in it at the same time, which is a matter of luck, and so tried again
 TRIES = 20
-SHARES = ("memory that threads share", "verdict", "static volatile size_t kept; kept = file_length;", "if (!r && kept != file_length) answer[1]++;")
+SHARES = ("memory that threads share", "verdict", "static const uint8_t *volatile kept; kept = table;", "if (!r && kept != table) answer[1]++;")
 # a function that copies what is lent: seen only by the stack that it takes
 COPIES = ("a list is copied", "difference", "uint8_t copy[x_length + 1]; for (size_t i = 0; i < x_length; i++) copy[i] = x[i]; x = copy;", "")
 
@@ -214,26 +262,30 @@ COPIES = ("a list is copied", "difference", "uint8_t copy[x_length + 1]; for (si
 def source(name, before, after):
     """The wrong function in C, around the right one under another name."""
     read, written = CALLS[name]
-    lists = [(f"const {TYPES[c_uint8]}", lent) for lent in read] + [(TYPES[kind], lent) for lent, kind, _ in written]
-    parameters = ", ".join(f"size_t {lent}" if lent in BY_VALUE else f"{kind} *{lent}, size_t {lent}_length" for kind, lent in lists)
+    constant = [lent for lent in read if name not in EDITS or lent != "table"]
+    lists = [("const " * (lent in constant) + TYPES[c_uint8], lent) for lent in read] + [(TYPES[kind], lent) for lent, kind, _ in written]
+    parameters = ", ".join(f"size_t {lent}" if lent in BY_VALUE else f"{kind} *{lent}, size_t {lent}_length" for kind, lent in lists) or "void"
     given = ", ".join(lent if lent in BY_VALUE else f"{lent}, {lent}_length" for _, lent in lists)
-    return f"""#include <stddef.h>
-#include <stdint.h>
+    return f"""#include "held.h"
 #define YOTSELINA_NUMBER(r) ((r) & 0xffff)
 uint32_t yotselina_check(const uint8_t *file, size_t file_length);
-int forgets(const uint8_t *file, const uint8_t *input, size_t input_length, const uint8_t *output, size_t output_length);
-int repeats(const uint8_t *file, size_t length);
+uint32_t yotselina_useful_states(const uint8_t *table, size_t table_length, uint8_t *flags, size_t flags_length);
+int forgets(const uint8_t *table, const uint8_t *input, size_t input_length, const uint8_t *output, size_t output_length);
+int repeats(const uint8_t *table);
+void drop_repeats(uint8_t *table);
 size_t without_repeats(uint8_t *file, size_t length);
-uint32_t misjoin(const char *wrong, const uint8_t *first, const uint8_t *second, uint8_t *out, size_t out_length, uint64_t *answer);
-uint32_t misappend(const char *wrong, const uint8_t *file, size_t file_length, const uint8_t *line, size_t line_length, uint8_t *out,
-                   size_t out_length, uint64_t *answer);
-uint32_t misremove(const char *wrong, const uint8_t *file, size_t file_length, size_t number, uint8_t *out, size_t out_length, uint64_t *answer);
-void mislook(const char *wrong, const uint8_t *file, size_t length, uint8_t *flags);
+uint32_t misjoin(const char *wrong, const uint8_t *first, const uint8_t *second, uint8_t *result);
+uint32_t misappend(const char *wrong, uint8_t *table, const uint8_t *line, size_t line_length);
+uint32_t misremove(const char *wrong, uint8_t *table, size_t number);
+void mislook(const char *wrong, const uint8_t *table, uint8_t *flags);
+uint32_t right({parameters});
+static inline void put_right(uint8_t *table) {{ work_out((struct held *)table); }}
+static inline int is_taken(const uint8_t *table, size_t length)
+{{ uint8_t flags[32]; return length >= {HELD} && !{"right" if name == "useful_states" else "yotselina_useful_states"}(table, length, flags, 32); }}
 static inline int not_all_codes(const uint8_t *word, size_t length)
 {{ for (size_t i = 0; i < length; i++) if (!word[i] || word[i] > 250) return 1; return 0; }}
 static inline void copy(uint8_t *to, const void *from, size_t length)
 {{ for (size_t i = 0; i < length; i++) to[i] = ((const uint8_t *)from)[i]; }}
-uint32_t right({parameters});
 uint32_t yotselina_{name}({parameters}) {{ {before} uint32_t r = right({given}); {after} return r; }}
 """
 
@@ -249,7 +301,7 @@ def wrong_parts(folder, archive, fault):
 def wrong_library(folder, archive, helpers, fault):
     """The shared object with the fault in it."""
     wrong, right = wrong_parts(folder, archive, fault)
-    link_shared(folder / "wrong.so", right, wrong, *helpers)
+    link_shared(folder / "wrong.so", right, f"-I{SOURCES}", wrong, *helpers)
     return Library(folder / "wrong.so")
 
 
@@ -264,6 +316,7 @@ def compiled(folder):
 
 SOME_EDITS = [*product((editing.compare_list,), ("random, small",), range(TABLES))]
 SOME_LOOKS = [(editing.compare_looks,), *SOME_EDITS]
+SOME_BYTES = (0, heldtables.PIECE, HELD - 1)  # where the bytes begin that are changed: the flags and the first lines, more lines, the last byte
 
 
 def some_of(name):
@@ -277,15 +330,17 @@ def some_of(name):
                 *product((joins.compare_pair,), ("random, small",), range(MIXED))]
     if name in ("append", "remove"):
         return [(editing.compare_known,), *product((editing.compare_each, editing.compare_ways), ("table P", "255 lines")),
-                *((editing.compare_refusals, *refused) for refused in editing.REFUSED), *SOME_EDITS]
+                *((editing.compare_refusals, *refused) for refused in editing.REFUSED), *SOME_LOOKS]
     return [*product((everycall.compare_table,), KINDS, range(TABLES)), *product((everycall.compare_mixed,), range(MIXED)), (everycall.compare_orders,)]
 
 
 def comparisons_for(fault):
-    """Those that must find a fault: of its call, of looks, of tables that are alike, of bytes behind the last record, or of threads."""
+    """Those that must find a fault: of its call, of every byte, of looks, of tables that are alike, of bytes behind the last record, or of threads."""
     name = fault[1]
     if fault == SHARES:
         return [(atonce.compare_threads,)] * TRIES
+    if fault in HELD_WRONGLY:
+        return product((heldtables.compare_bytes,), ("table D", "32 states, no lines"), SOME_BYTES)
     if fault in LOOKS:
         return SOME_LOOKS
     if fault in REPEATS:
@@ -329,6 +384,6 @@ def run(findings):
     archive = build()
     with tempfile.TemporaryDirectory() as folder:
         parts = archive, compiled(Path(folder))
-        jobs = [(try_fault, *parts, fault) for fault in (*FAULTS, *LOOKS, *REPEATS, *BEHIND, SHARES)] + [(try_copies, archive)]
+        jobs = [(try_fault, *parts, fault) for fault in (*FAULTS, *HELD_WRONGLY, *LOOKS, *REPEATS, *BEHIND, SHARES)] + [(try_copies, archive)]
         jobs += [(try_no_rule, *parts, made("no rule")) for made in (misjoined, misappended, misremoved, mislooked)]
         spread(Library, jobs, findings, batch=2)

@@ -1,20 +1,20 @@
 """The library's join of two tables (yotselina_join)."""
 
 from means import generate, reference, series
-from means.calls import SOME_TABLES, check, written_by
+from means.calls import SOME_TABLES, check, held_by
 from means.compare import randomness
 from means.joins import (GROUP, as_second, compare_alike, compare_known, compare_limits, compare_mixed, compare_pair, compare_refusals,
                          look_at_joined)
 from means.library import Library, build
 from means.namedjoins import BLANK, ECHO
-from means.owed import table_of
-from means.series import files_of
+from means.owed import table_held
+from means.series import held_pair
 from means.settings import share
-from means.transducer import Transducer
+from means.transducer import Transducer, table_file
 from means.workers import spread
 
-MIXED = 1_500  # pairs of files of which most are damaged, with any sizes
-ALIKE = 800  # pairs of files with a pair that is alike
+MIXED = 1_500  # pairs of held tables of which many are damaged, with any sizes
+ALIKE = 800  # pairs of tables with a pair that is alike
 
 
 def useful_part(transducer):
@@ -33,11 +33,11 @@ def compare_echo(library, findings, kind, index):
     transducer, _ = generate.KINDS[kind][1](random)
     shorter = series.one_code_each(random, transducer, ECHO, 0)
     for pair, expected in (((ECHO, transducer), transducer), ((shorter, ECHO), shorter)):
-        files = files_of(pair)
-        call = library.call(random, "join", *files)
-        if check(findings, f"{GROUP}, with an echo", table_of(files[0]), call, as_second(files[1])):
-            faults = [] if reference.alike(reference.read(written_by(call)), useful_part(expected)) else ["not the useful part of the table"]
-            findings.check(f"library, {GROUP}, with an echo", faults, files[0], as_second(files[1]))
+        call = library.call(random, "join", *held_pair(pair))
+        note = as_second(call.inputs[1])
+        if check(findings, f"{GROUP}, with an echo", call, note):
+            faults = [] if reference.alike(table_held(held_by(call)).transducer, useful_part(expected)) else ["not the useful part of the table"]
+            findings.check(f"library, {GROUP}, with an echo", faults, table_file(pair[0]), note)
             look_at_joined(library, findings, random, call)
 
 

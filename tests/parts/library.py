@@ -1,18 +1,18 @@
-"""Every call of the library, made through ctypes (the join only with bytes behind the last record)."""
+"""Every call of the library but the join, made through ctypes."""
 
 from means import generate, named
 from means.calls import SOME_TABLES, check, exact_sizes, one_short, same_refusal
 from means.compare import randomness
 from means.differences import compare_differences, compare_long
 from means.everycall import LEAST, compare_behind, compare_counts_behind, compare_mixed, compare_orders, compare_table, inputs_of
-from means.library import OF_FILES, Library, build
+from means.held import held_of
+from means.library import OF_FILES, OF_TABLES, Library, build
 from means.listing import Refusal, parse_verdict
 from means.owed import table_of
 from means.settings import share
-from means.transducer import table_file
 from means.workers import spread
 
-MIXED = 1_500  # files with random damages, words and sizes
+MIXED = 1_500  # files and held tables with random damages, words and sizes
 
 
 def compare_files(library, findings):
@@ -21,20 +21,20 @@ def compare_files(library, findings):
     for title, content, printed in named.FILES:
         said = parse_verdict(printed)
         for name in OF_FILES:
-            call = library.call(random, name, *inputs_of(name, content, LEAST)[0])
+            call = library.call(random, name, content)
             if isinstance(said, Refusal):
                 same_refusal(findings, "named file", call, said.number, said.record, title)
             else:
-                check(findings, "named file", table_of(content), call, title)
+                check(findings, "named file", call, title)
+        for name in () if isinstance(said, Refusal) else OF_TABLES:
+            check(findings, "named file", library.call(random, name, *inputs_of(name, held_of(table_of(content).transducer), LEAST)[0]), title)
     for title, transducer, word, _ in named.TRANSLATIONS:
-        table = table_of(table_file(transducer))
-        check(findings, "named word", table, library.call(random, "translate", table.content, bytes(word)), title)
+        check(findings, "named word", library.call(random, "translate", held_of(transducer), bytes(word)), title)
     transducer, word, _ = named.longest_translation()
-    table = table_of(table_file(transducer))
-    call = library.call(random, "translate", table.content, bytes(word))
-    check(findings, "named word", table, call, "the longest translation")
+    call = library.call(random, "translate", held_of(transducer), bytes(word))
+    check(findings, "named word", call, "the longest translation")
     for less in one_short(exact_sizes(call)):
-        check(findings, "named word", table, library.call(random, "translate", table.content, bytes(word), **less), "the longest, one place short")
+        check(findings, "named word", library.call(random, "translate", *call.inputs, **less), "the longest, one place short")
 
 
 def run(findings):
