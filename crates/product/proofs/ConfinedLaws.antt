@@ -13,14 +13,14 @@ use Rattle.worklist.specs.Lists.{Worklist, Found, nonZeros, added, visited}
 use Rattle.worklist.specs.Search.{Blank, Rooted, Scanned, Expanded, Working, Exact}
 use Rattle.worklist.proofs.Findings.{Lengths, exact}
 use Rattle.worklist.proofs.AllFound.{all-found, found-within, working-all}
-use Rattle.worklist.proofs.Stages.{rooted-skip, rooted-visit, scanned-skip, scanned-visit, scanned-join, expanded}
+use Rattle.worklist.proofs.Stages.{rooted-past, rooted-skip, rooted-visit, scanned-skip, scanned-visit, scanned-join, expanded}
 use Rattle.transducer.proofs.Bools.{and-both}
 use Rattle.transducer.proofs.Facts.{in-below}
 use Rattle.transducer.specs.StateSet.{has}
 use Rattle.transducer.specs.declared.StateSet.{StateSet}
 use Rattle.product.specs.Numbers.{mostPairs, firstOf, secondOf, labelOf, PairIn}
 use Rattle.product.specs.Steps.{pastLast, RowFrom, Steps, targetOf, Past}
-use Rattle.product.specs.Confined.{Allowed, offered, Begins, Goes, Ready}
+use Rattle.product.specs.Confined.{Allowed, offered, pairAfter, Begins, Goes, Ready}
 use Rattle.product.proofs.TargetLaws.{target-low}
 use Rattle.product.proofs.StepLaws.{past-row-after, past-last-row}
 
@@ -36,6 +36,11 @@ pair-in s s′ v = go (has s (firstOf v)) (has s′ (secondOf v)) refl refl
     go true true e d = yes (record { first = e; second = d })
     go true false e d = no (λ p. true≢false (sym (p .second) ∙ d))
     go false b e d = no (λ p. true≢false (sym (p .first) ∙ e))
+
+-- the pair after one is later, and no later than the end
+pub pair-later : (start : Bool) {v : ℕ} → v < mostPairs → (v < pairAfter start v) × (pairAfter start v ≤ mostPairs)
+pair-later true h = (omega arith, omega arith)
+pair-later false h = (omega arith, omega arith)
 
 -- before a search too the lists have 1,024 elements each
 pub blank-lengths : {s : Worklist} → Blank mostPairs s → Lengths mostPairs s
@@ -61,6 +66,13 @@ module _ {starts starts′ : StateSet} {allowed : List ℕ} where
           → Rooted (Begins starts starts′ allowed) mostPairs s′ (node + 1)
       go true d e = rw e (rooted-skip r (λ z. omega (arith, z .inside, eqb-true (getD allowed node 0) 0 d)))
       go false d e = rooted-visit 0 r h (record { start-pair = p; inside = omega (arith, eqb-false (getD allowed node 0) 0 d) }) e
+
+  -- it goes on to the next pair, or passes the rest of a row whose state is no start state
+  pub rooted-after : {s : Worklist} (node : ℕ) {start : Bool} → Rooted (Begins starts starts′ allowed) mostPairs s (node + 1)
+      → start ≡ has starts (firstOf node) → Rooted (Begins starts starts′ allowed) mostPairs s (pairAfter start node)
+  rooted-after node {start = true} r e = r
+  rooted-after node {start = false} r e =
+      rooted-past r (λ v a b z. let same : firstOf v ≡ firstOf node = omega arith in true≢false (sym (z .start-pair .first) ∙ ap (has starts) same ∙ sym e))
 
   module _ {left right : List ℕ} where
     -- it passes labels that no step has

@@ -3,14 +3,14 @@
 use mathlib.Core.Bool.{Bool, cond, _&&_}
 use mathlib.Core.Path.{_≡_}
 use mathlib.Core.List.{List}
-use Prim.Native.Nat.{ℕ, _<_}
+use Prim.Native.Nat.{ℕ, _+_, _<_}
 use lib.ListN.{length, getD}
 use lib.Dec.{eqb, ltb}
 use Rattle.worklist.specs.Lists.{Worklist, Found, visited}
 use Rattle.worklist.specs.Search.{Grown}
 use Rattle.transducer.specs.declared.StateSet.{StateSet}
 use Rattle.product.specs.Machine.{Machine}
-use Rattle.product.specs.Numbers.{mostPairs, firstOf, secondOf, PairIn}
+use Rattle.product.specs.Numbers.{mostPairs, pairOf, firstOf, secondOf, PairIn}
 use Rattle.product.specs.Steps.{Steps, targetOf}
 
 -- the pair v is allowed
@@ -20,6 +20,10 @@ Allowed allowed v = 0 < getD allowed v 0
 -- the state after `node` is visited if it is allowed
 abbrev pub offered : List ℕ → Worklist → ℕ → ℕ → ℕ → Worklist
 offered allowed s node from label = cond (eqb (getD allowed node 0) 0) s (visited s node from label)
+
+-- where the loop over the pairs goes on from v: to the next pair, or to the next row where the first state is no start state
+abbrev pub pairAfter : Bool → ℕ → ℕ
+pairAfter start v = cond start (v + 1) (pairOf (firstOf v + 1) 0)
 
 module _ (starts starts′ : StateSet) (allowed : List ℕ) where
   -- the search begins at v: an allowed pair of start states

@@ -77,6 +77,10 @@ lineOf n v = usedOf n v && codesOf v
 unfoldable pub clearOf : Transition → Bool
 clearOf v = eqb (v .from) 0 && eqb (v .to) 0 && eqb (v .input .0) 0 && eqb (v .count) 0
 
+-- every place of an output holds 0
+unfoldable pub zerosOf : Transition → Bool
+zerosOf v = allBelow mostOutputs (λ j. eqb (codeAt v j) 0)
+
 -- transition l: below the count one in use, from there on one that is not
 unfoldable pub placeOf : Transducer → ℕ → Bool
 placeOf t l = cond (ltb l (t .count)) (lineOf (t .states) (at t l)) (clearOf (at t l) && codesOf (at t l))

@@ -5,7 +5,7 @@ ghost use Prim.Native.Nat.{ℕ, _<_};
 ghost use lib.ListN.{length};
 ghost use Rattle.transducer.specs.Limits.{mostTransitions, mostOutputs};
 ghost use Rattle.transducer.specs.Transition.{at};
-ghost use Rattle.transducer.specs.Valid.{allBelow, codeOf, codesOf, usedOf, lineOf, clearOf, placeOf, setOf, Tested};
+ghost use Rattle.transducer.specs.Valid.{allBelow, codeOf, codesOf, usedOf, lineOf, clearOf, zerosOf, placeOf, setOf, Tested};
 use crate::StateSet;
 use crate::Transducer;
 use crate::Transition;
@@ -18,6 +18,7 @@ pub fn valid(t: Transducer) -> bool
 {
     let states = t.states as usize;
     let count = t.count as usize;
+    sized(t);
     (1 <= states)
         & (states <= limits::STATES)
         & set_ok(t.states, t.starts)
@@ -38,31 +39,55 @@ fn set_ok(n: u8, s: StateSet) -> bool
     ok
 }
 
-// Whether every transition of t is as it should be.
+// Does nothing: that the outputs of t have their lengths is promised also of a value that fails, where the test ends early.
+fn sized(t: Transducer)
+    ensures { λ _. ⌜ ((l : ℕ) → l < mostTransitions → length (at t l .output) ≡ mostOutputs) ⌝ }
+{
+    for l in 0..limits::TRANSITIONS {
+        whole(t.transitions[l]);
+    }
+}
+
+// The same for one transition.
+fn whole(v: Transition)
+    ensures { λ _. ⌜ length (v .output) ≡ mostOutputs ⌝ }
+{}
+
+// Whether every transition of t is as it should be. The loop ends with the first that is not.
 fn places_ok(t: Transducer) -> bool
     ensures { λ r. ⌜ r ≡ allBelow mostTransitions (placeOf t) ⌝ }
-    ensures { λ _. ⌜ ((l : ℕ) → l < mostTransitions → length (at t l .output) ≡ mostOutputs) ⌝ }
 {
     let states = t.states;
     let count = t.count as usize;
-    let mut ok = true;
     for l in 0..limits::TRANSITIONS {
         let v = t.transitions[l];
-        ok = ok & place_ok(states, l < count, v);
+        if !place_ok(states, l < count, v) {
+            return false;
+        }
     }
-    ok
+    true
 }
 
 // Whether the transition v is as it should be among n states: one in use if `used` says so, else one that is not.
 fn place_ok(n: u8, used: bool, v: Transition) -> bool
     ensures { λ r. ⌜ r ≡ cond used (lineOf n v) (clearOf v && codesOf v) ⌝ }
-    ensures { λ _. ⌜ length (v .output) ≡ mostOutputs ⌝ }
 {
     if used {
         return line_ok(n, v);
     }
-    let codes = codes_ok(v);
-    clear_ok(v) & codes
+    let zeros = zeros_ok(v);
+    clear_ok(v) & zeros
+}
+
+// Whether every place of v's output holds 0: what is left to test where no code is counted.
+fn zeros_ok(v: Transition) -> bool
+    ensures { λ r. ⌜ r ≡ zerosOf v ⌝ }
+{
+    let mut ok = true;
+    for j in 0..limits::OUTPUTS {
+        ok = ok & (v.output[j].0 == 0);
+    }
+    ok
 }
 
 // Whether v is a transition in use among n states.
@@ -107,9 +132,6 @@ fn code_ok(v: Transition, j: usize) -> bool
     ensures { λ r. ⌜ r ≡ codeOf v j ⌝ }
 {
     let c = v.output[j].0;
-    if j < v.count as usize {
-        (1 <= c) & (c <= limits::CODE)
-    } else {
-        c == 0
-    }
+    let counted = j < v.count as usize;
+    ((c != 0) == counted) & (c <= limits::CODE)
 }

@@ -2,18 +2,29 @@
 // specs/Translated.antt. The path comes from the search of `wordsearch`, last transition first, so that the output is measured on one way back
 // along the search's parents and written, from its end to its beginning, on another.
 ghost use mathlib.Core.Path.{_≡_};
-ghost use Prim.Native.Nat.{_≤_};
+ghost use Prim.Native.Nat.{_≤_, _<_};
 ghost use lib.ListN.{length};
 ghost use Rattle.buffers.specs.Put.{put};
 ghost use Rattle.transducer.specs.Transition.{bytesOf};
 ghost use Rattle.transducer.specs.Valid.{Valid};
+ghost use Rattle.worklist.specs.Lists.{lists};
+ghost use Rattle.worklist.specs.Search.{Blank};
+ghost use Rattle.wordsearch.specs.Limits.{mostWord};
+ghost use Rattle.wordsearch.specs.Nodes.{Room};
 ghost use Rattle.wordsearch.specs.Answers.{written, Traced};
 ghost use Rattle.translator.specs.Numbers.{numberOf, lengthOf};
-ghost use Rattle.translator.specs.Translated.{Translated};
+ghost use Rattle.translator.specs.Words.{shortWord};
+ghost use Rattle.translator.specs.Translated.{Answers, Translated};
 use transducer::Transducer;
 use transducer::codes;
 use transducer::refusals;
 use wordsearch::limits;
+
+// A word of fewer codes is searched for in shorter lists, so that less has to be cleared; specs/Words.antt has the same number.
+const SHORT: usize = 32;
+
+// The nodes of such a word.
+const SHORT_NODES: usize = SHORT * transducer::limits::STATES;
 
 // What a translation answers; specs/Numbers.antt gives document 01's number of each.
 pub enum Translation {
@@ -68,17 +79,62 @@ pub fn translate(t: Transducer, input: &[u8], out: &mut [u8]) -> Translation
     if !codes::all(input) {
         return Translation::NoInputCode;
     }
+    if input.len() < SHORT {
+        return short(t, input, out);
+    }
+    long(t, input, out)
+}
+
+// The answer for a word of fewer than SHORT codes that is not refused.
+fn short(t: Transducer, input: &[u8], out: &mut [u8]) -> Translation
+    requires { ⌜ Valid t ⌝ }
+    requires { ⌜ length (now input) < shortWord ⌝ }
+    ensures { λ r. ⌜ Answers t (now (input .entry)) (now (out .entry)) (now (out .exit)) r ⌝ }
+{
+    let mut order = [0u32; SHORT_NODES];
+    let mut rank = [0u32; SHORT_NODES];
+    let mut parent = [0u32; SHORT_NODES];
+    let mut via = [0u32; SHORT_NODES];
+    answer(t, input, out, &mut order, &mut rank, &mut parent, &mut via)
+}
+
+// The answer for any word that is not refused.
+fn long(t: Transducer, input: &[u8], out: &mut [u8]) -> Translation
+    requires { ⌜ Valid t ⌝ }
+    requires { ⌜ length (now input) ≤ mostWord ⌝ }
+    ensures { λ r. ⌜ Answers t (now (input .entry)) (now (out .entry)) (now (out .exit)) r ⌝ }
+{
+    let mut order = [0u32; limits::NODES];
+    let mut rank = [0u32; limits::NODES];
     let mut parent = [0u32; limits::NODES];
     let mut via = [0u32; limits::NODES];
-    let place = wordsearch::find(t, input, &mut parent, &mut via);
+    answer(t, input, out, &mut order, &mut rank, &mut parent, &mut via)
+}
+
+// The same by four lists that hold 0 and have places for the word's nodes: the path is searched for, and its output measured and written.
+fn answer(
+    t: Transducer,
+    input: &[u8],
+    out: &mut [u8],
+    order: &mut [u32],
+    rank: &mut [u32],
+    parent: &mut [u32],
+    via: &mut [u32],
+) -> Translation
+    requires { ⌜ Valid t ⌝ }
+    requires { ⌜ Room (length (now input)) (length (now rank)) ⌝ }
+    requires { ⌜ Blank (length (now rank)) (lists (now order) (now rank) (now parent) (now via) 0) ⌝ }
+    ensures { λ r. ⌜ Answers t (now (input .entry)) (now (out .entry)) (now (out .exit)) r ⌝ }
+{
+    let place = wordsearch::find(t, input, order, rank, parent, via);
     if place == wordsearch::NOWHERE {
         return Translation::Unread;
     }
-    let size = measure(t, &parent, &via, place);
+    let size = measure(t, parent, via, place);
     if out.len() < size {
         return Translation::BufferTooShort;
     }
-    write(t, &parent, &via, place, out, size);
+    write(t, parent, via, place, out, size);
     Translation::Written(size)
 }
 

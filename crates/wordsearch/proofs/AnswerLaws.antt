@@ -4,7 +4,7 @@ use mathlib.Core.Path.{_≡_, sym, ap, _∙_}
 use mathlib.Core.Bool.{true, false}
 use mathlib.Core.List.{List, append-nil}
 use mathlib.Core.Logic.{⊎-elim}
-use Prim.Native.Nat.{ℕ, _+_, _*_, _<_}
+use Prim.Native.Nat.{ℕ, _+_, _*_, _≤_, _<_}
 use native.Mathlib.Omega.{arith}
 use lib.ListN.{length, getD, length-reverse}
 use lib.Seq.{drop-length}
@@ -32,7 +32,7 @@ use Rattle.wordsearch.proofs.PathsOfNodes.{trail-spells, accepting-reac
 
 module _ {t : Transducer} (valid : Valid t) {m : List ℕ} (image : ImageOf t false m) {input : List ℕ} {N : ℕ} where
   -- a place whose node ends an accepting path is an answer
-  hit : {s : Worklist} {i : ℕ} → N ≡ mostNodes → Grown (In (t .starts)) (Leads true m input) N s → i < s .count
+  hit : {s : Worklist} {i : ℕ} → N ≤ mostNodes → Grown (In (t .starts)) (Leads true m input) N s → i < s .count
       → Ends (t .finals) input (getD (s .order) i 0) → Answered t (s .parent) (s .via) (wordOf input) i
   hit {s} {i} same g h e =
       let n = lengths g in
@@ -43,11 +43,11 @@ module _ {t : Transducer} (valid : Valid t) {m : List ℕ} (image : ImageOf t fa
       let short = ap length way in
       Answered.found
       (record {
-        parents = n .parent ∙ same;
-        labels = n .via ∙ same;
-        inside = omega (arith, at-most g);
+        parents = omega (arith, n .parent);
+        labels = n .via ∙ sym (n .parent);
+        inside = omega (arith, at-most g, n .parent);
         chain = chain;
-        short = omega (arith, short, c .1, at-most g);
+        short = omega (arith, short, c .1, at-most g, n .parent);
         older = λ k l. older g (omega arith);
         used = λ k l n. ⊎-elim (λ y. absurd (n (y .0))) (λ y. edge-of image (y .3 .leaves) .used) (g .why k (omega arith));
         few = omega (arith, length-writes (λ l b. valid .used l b .few-outputs) (p .path), length-reverse (wayFrom (s .parent) (s .via) i), short, c .1, at-most g);
@@ -68,7 +68,7 @@ module _ {t : Transducer} (valid : Valid t) {m : List ℕ} (image : ImageOf t fa
       none (i .0) (i .1) (rw (i .2) (record { position = omega (arith, length-word input); final = rw same (a .ends) }))
 
   -- however the search ends, that is an answer
-  pub answered : {order rank parent via : List ℕ} {r : ℕ} → N ≡ mostNodes → Ended true m input (t .starts) (t .finals) N order rank parent via r
+  pub answered : {order rank parent via : List ℕ} {r : ℕ} → N ≤ mostNodes → Ended true m input (t .starts) (t .finals) N order rank parent via r
       → Answered t parent via (wordOf input) r
   answered same (Ended.met g h e) = hit same g h e
   answered same (Ended.all e x none) = Answered.none e (miss x none)

@@ -75,5 +75,5 @@ module _ {t : Transducer} {parent via : List ℕ} {w : InputWord} {r : ℕ} wher
 
   -- 8,192 says that no accepting path reads the word
   pub answered-unread : Answered t parent via w r → r ≡ mostNodes → (y : OutputWord) → Relates t w y → ⊥
-  answered-unread (Answered.found k a e) z = absurd (omega (arith, k .inside))
+  answered-unread (Answered.found k a e) z = absurd (omega (arith, k .inside, k .parents))
   answered-unread (Answered.none e a) _ = a

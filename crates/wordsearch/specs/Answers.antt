@@ -22,11 +22,11 @@ module _ (t : Transducer) (parent via : List ℕ) where
 
   -- the place is one of the search's, and the parents lead back from it along transitions of t, which write at most 65,528 codes
   pub record Traced (place : ℕ) : Type 0 where
-    pub parents : length parent ≡ mostNodes
-    pub labels : length via ≡ mostNodes
-    pub inside : place < mostNodes
+    pub parents : length parent ≤ mostNodes
+    pub labels : length via ≡ length parent
+    pub inside : place < length parent
     pub chain : Chain parent via place (wayFrom parent via place)
-    pub short : length (wayFrom parent via place) ≤ mostNodes
+    pub short : length (wayFrom parent via place) ≤ length parent
     pub older : (i : ℕ) → i ≤ place → getD parent i 0 ≤ i
     pub used : (i : ℕ) → i ≤ place → getD parent i 0 ≢ 0 → getD via i 0 < t .count
     pub few : length (written place) ≤ mostWritten

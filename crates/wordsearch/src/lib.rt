@@ -14,7 +14,7 @@ ghost use Rattle.worklist.specs.Lists.{lists};
 ghost use Rattle.worklist.specs.Search.{Blank, Rooted};
 ghost use Rattle.product.specs.Machine.{mostPlaces, Machine, Leaves};
 ghost use Rattle.wordsearch.specs.Limits.{mostWord, mostNodes};
-ghost use Rattle.wordsearch.specs.Nodes.{positionOf, stateOf, codeOf, Leads, Lent, Ready, Done, Ended};
+ghost use Rattle.wordsearch.specs.Nodes.{positionOf, stateOf, codeOf, Leads, Room, Lent, Ready, Done, Ended};
 ghost use Rattle.wordsearch.specs.Answers.{NodeOf, Answered};
 use product::machine;
 use product::machine::NO_TRANSITION;
@@ -28,31 +28,26 @@ pub const NOWHERE: u32 = limits::NODES as u32;
 // The states of a position.
 const STATES: u32 = transducer::limits::STATES as u32;
 
-// A place of the search from which the parents lead back along an accepting path that reads the word, or NOWHERE where no such path is.
-pub fn find(t: Transducer, input: &[u8], parent: &mut [u32], via: &mut [u32]) -> u32
+// A place of the search from which the parents lead back along an accepting path that reads the word, or NOWHERE where no such path is. The lists
+// are those of a search that has found nothing, with places for the word's nodes.
+pub fn find(
+    t: Transducer,
+    input: &[u8],
+    order: &mut [u32],
+    rank: &mut [u32],
+    parent: &mut [u32],
+    via: &mut [u32],
+) -> u32
     requires { ⌜ Valid t ⌝ }
-    requires { ⌜ length (now input) ≤ mostWord ⌝ }
-    requires { ⌜ length (now parent) ≡ mostNodes ⌝ }
-    requires { ⌜ length (now via) ≡ mostNodes ⌝ }
+    requires { ⌜ Room (length (now input)) (length (now rank)) ⌝ }
+    requires { ⌜ Blank (length (now rank)) (lists (now order) (now rank) (now parent) (now via) 0) ⌝ }
     ensures { λ r. ⌜ Answered t (now (parent .exit)) (now (via .exit)) (wordOf (now (input .entry))) r ⌝ }
 {
     let mut m = [0u16; machine::PLACES];
-    let mut order = [0u32; limits::NODES];
-    let mut rank = [0u32; limits::NODES];
     let starts = t.starts;
     let finals = t.finals;
     machine::by_input(t, &mut m);
-    search(
-        &m,
-        true,
-        starts,
-        finals,
-        input,
-        &mut order,
-        &mut rank,
-        parent,
-        via,
-    )
+    search(&m, true, starts, finals, input, order, rank, parent, via)
 }
 
 // Finds the nodes to which transitions lead from the start states, in order, until none is left or one is met where a path ends: its place, or

@@ -24,7 +24,7 @@ search-requires c κs =
     let p = empty c .before .before .before .pre in
     let long = ap length (p .1) ∙ length-replicate {A = ℕ} mostStates 0 in
     rw long (
-      record { machine = p .0; short = omega arith; room = omega arith; whole = refl; most = omega arith },
+      record { machine = p .0; short = omega arith; nodes = record { room = omega arith; whole = refl; most = omega arith } },
       record {
         order = length-replicate {A = ℕ} mostStates 0;
         rank = p .1;

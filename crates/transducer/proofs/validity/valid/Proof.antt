@@ -23,15 +23,14 @@ places-ok-requires c κs = search needs
 returns : tie.Need-returns
 unfolding validOf
 returns c =
-    let places = c .places-ok .ensures in
     record {
-      answer = rw (c .before .before .set-ok .ensures, c .before .set-ok2 .ensures, places .0);
+      answer = rw (c .before .before .set-ok .ensures, c .before .set-ok2 .ensures, c .places-ok .ensures);
       shaped =
           record {
             starts = search needs;
             finals = search needs;
-            transitions = simp length-map at (c .before .before .before .before .before .good .0 .1 .1 .1 .1 .1 .1 .0 .1 .0 .1);
-            outputs = places .1;
+            transitions = simp length-map at (c .before .before .before .before .before .before .good .0 .1 .1 .1 .1 .1 .1 .0 .1 .0 .1);
+            outputs = c .before .before .before .sized .ensures;
             useful = search needs;
           };
     }
@@ -39,4 +38,4 @@ returns c =
 pub valid-spec : {M : Type 1} → statement M
 valid-spec =
     tie.close
-    (tie.spec cast-states cast-count set-ok-requires set-ok-requires-2 places-ok-requires returns)
+    (tie.spec cast-states cast-count (λ c κs. search needs) set-ok-requires set-ok-requires-2 places-ok-requires returns)
