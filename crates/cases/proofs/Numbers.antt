@@ -24,6 +24,7 @@ sizes =
       word-read = refl;
       tested-input = refl;
       tested-output = refl;
+      held = refl;
     }
 
 pub refusal-numbers : RefusalNumbers

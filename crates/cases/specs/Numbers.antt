@@ -12,6 +12,7 @@ use Rattle.wordrows.specs.Limits.{mostInput, mostOutput}
 use Rattle.witness.specs.Sides.{mostSteps, mostShown}
 use Rattle.records.specs.Letters.{mostBytes}
 use Rattle.translator.specs.Words.{refusalOf}
+use Rattle.held.specs.Held.{heldSize}
 use Rattle.report.specs.Report.{readBytes, readCodes}
 use Rattle.cases.specs.Cases.{oneState}
 
@@ -45,6 +46,8 @@ pub record Sizes : Type 0 where
   -- document 02, job 1: "a cue of up to 63 codes and an output of up to 127"
   pub tested-input : mostInput ≡ 63
   pub tested-output : mostOutput ≡ 127
+  -- the library's own: the places of a held table
+  pub held : heldSize ≡ 3171
 
 -- the refusals that document 01's table has besides those of a file, which specs/Files.antt shows; and document 02's
 pub record RefusalNumbers : Type 0 where

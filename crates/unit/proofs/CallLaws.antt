@@ -9,7 +9,7 @@ use native.Mathlib.Omega.{arith}
 use lib.Dec.{eqb}
 use lib.ListN.{length, getD}
 use Rattle.buffers.specs.Put.{put}
-use Rattle.transducer.specs.Refusals.{answerTooShort, firstOf}
+use Rattle.transducer.specs.Refusals.{listTooShort, firstOf}
 use Rattle.transducer.proofs.Bools.{le-or-lt}
 use Rattle.records.specs.Letters.{mostFields}
 use Rattle.held.specs.Held.{heldSize}
@@ -57,7 +57,7 @@ three-holding h g m = go (holding h) (holding g) (holding m)
 
 module _ {Long Kept : Type 0} {Answers : ℕ → Type 0} {r : ℕ} (c : Call Long Kept Answers r) (l : OrNot Long) where
   -- what holds of 100, and of what an answer returns, holds of what is returned
-  pub call-has : (P : ℕ → Type 0) → P answerTooShort → (Long → Answers r → P r) → P r
+  pub call-has : (P : ℕ → Type 0) → P listTooShort → (Long → Answers r → P r) → P r
   call-has P short answered = go l
     where
       go : OrNot Long → P r
@@ -65,7 +65,7 @@ module _ {Long Kept : Type 0} {Answers : ℕ → Type 0} {r : ℕ} (c : Call Lon
       go (inr few) = rw (c .short few .0) short
 
   -- where 100 is not returned, the lists are long enough
-  pub long-lent : r ≢ answerTooShort → Long
+  pub long-lent : r ≢ listTooShort → Long
   long-lent n = go l
     where
       go : OrNot Long → Long
@@ -73,7 +73,7 @@ module _ {Long Kept : Type 0} {Answers : ℕ → Type 0} {r : ℕ} (c : Call Lon
       go (inr few) = absurd (n (c .short few .0))
 
   -- and the call answers
-  pub answered : r ≢ answerTooShort → Answers r
+  pub answered : r ≢ listTooShort → Answers r
   answered n = c .answers (long-lent n)
 
   pub done-lent : r ≡ 0 → Long
@@ -84,7 +84,7 @@ module _ {Long Kept : Type 0} {Answers : ℕ → Type 0} {r : ℕ} (c : Call Lon
 
 -- the same call, twice: both answer, or both return 100 and leave what is lent
 pub twice : {Long Kept₁ Kept₂ Result : Type 0} {A₁ A₂ : ℕ → Type 0} {r₁ r₂ : ℕ} → Call Long Kept₁ A₁ r₁ → Call Long Kept₂ A₂ r₂ → OrNot Long
-    → (A₁ r₁ → A₂ r₂ → Result) → (r₁ ≡ r₂ → r₁ ≡ answerTooShort → Kept₁ → Kept₂ → Result) → Result
+    → (A₁ r₁ → A₂ r₂ → Result) → (r₁ ≡ r₂ → r₁ ≡ listTooShort → Kept₁ → Kept₂ → Result) → Result
 twice c k (inl long) answers short = answers (c .answers long) (k .answers long)
 twice c k (inr few) answers short =
     let one = c .short few in

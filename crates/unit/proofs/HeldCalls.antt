@@ -11,7 +11,7 @@ use lib.Seq.{drop-append-seam}
 use Rattle.buffers.specs.Put.{put}
 use Rattle.buffers.proofs.PutLaws.{front-put, put-length}
 use Rattle.records.specs.Letters.{mostFields}
-use Rattle.transducer.specs.Refusals.{answerTooShort}
+use Rattle.transducer.specs.Refusals.{listTooShort}
 use Rattle.transducer.specs.Valid.{Shaped}
 use Rattle.transducer.specs.Accepted.{acceptedOf}
 use Rattle.transducer.specs.Alike.{Alike}
@@ -95,7 +95,7 @@ file-again f {out = out} {out′} {a} {a′} {s} taken table held room =
     let none : s ≡ 0 = writes .given .code ∙ again .number in
     (none, again .buffer, writes .given .answered none ∙ ap (λ l. put a 0 (l ∷ [])) (again .count))
 
-pub read-then-write : {f m h out out′ a a′ : List ℕ} {r s : ℕ} → ReadGiven f m h r → r ≡ 0 → WriteGiven h out out′ a a′ s → s ≢ answerTooShort
+pub read-then-write : {f m h out out′ a a′ : List ℕ} {r s : ℕ} → ReadGiven f m h r → r ≡ 0 → WriteGiven h out out′ a a′ s → s ≢ listTooShort
     → length f ≤ length out → (s ≡ 0) × (out′ ≡ put out 0 f) × (a′ ≡ put a 0 (length f ∷ []))
 read-then-write {f} {h = h} {a = a} g z k n = file-again f (read-taken g z) (read-table g z) (answered (k .call) (lent writeAnswer a h) n)
 

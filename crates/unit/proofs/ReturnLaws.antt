@@ -11,7 +11,7 @@ use lib.Dec.{leb, ltb}
 use lib.ListN.{length}
 use Rattle.transducer.specs.Limits.{mostTransitions}
 use Rattle.transducer.specs.Refusals as refusal
-use Rattle.transducer.specs.Refusals.{invalid, tooShort, answerTooShort, firstOf}
+use Rattle.transducer.specs.Refusals.{invalid, tooShort, listTooShort, firstOf}
 use Rattle.transducer.specs.Valid.{lineOf}
 use Rattle.transducer.specs.Codes.{allCodes}
 use Rattle.transducer.specs.Accepted.{acceptedOf}
@@ -207,7 +207,7 @@ joins {first} {second} {r = r} h =
 -- ---- the calls
 
 -- so it is with every call on a held table that is not refused for a short list
-asked-told : {h : List ℕ} {r : ℕ} → Asked h r → r ≢ answerTooShort → Told (acceptedOf (tableIn h)) r
+asked-told : {h : List ℕ} {r : ℕ} → Asked h r → r ≢ listTooShort → Told (acceptedOf (tableIn h)) r
 asked-told {h} (laws.write {a = a} g) n = writes (answered (g .call) (lent writeAnswer a h) n)
 asked-told {h} (laws.verdict {a = a} g) n = decides (answered (g .call) (lent verdictAnswer a h) n)
 asked-told {h} (laws.translation {a = a} g) n = translates (answered (g .call) (lent translateAnswer a h) n)
@@ -217,14 +217,14 @@ asked-told {h} (laws.pairs {a = a} g) n = pairs-told (answered (g .call) (lent p
 asked-told {h} (laws.append {line = line} g) n = edits (answered (g .call) (line-lent h line) n)
 asked-told {h} (laws.remove g) n = edits (answered (g .call) (holding h) n)
 
-join-told : {h g m m′ : List ℕ} {r : ℕ} → JoinGiven h g m m′ r → r ≢ answerTooShort → Told (acceptedOf (tableIn h) && acceptedOf (tableIn g)) r
+join-told : {h g m m′ : List ℕ} {r : ℕ} → JoinGiven h g m m′ r → r ≢ listTooShort → Told (acceptedOf (tableIn h) && acceptedOf (tableIn g)) r
 join-told {h} {g} {m} k n = joins (answered (k .call) (three-holding h g m) n)
 
 -- so each is at most 100
-few-told : {x : Bool} {r : ℕ} → (r ≢ answerTooShort → Told x r) → r ≤ 100
-few-told {r = r} told = go (ℕ-discrete r answerTooShort)
+few-told : {x : Bool} {r : ℕ} → (r ≢ listTooShort → Told x r) → r ≤ 100
+few-told {r = r} told = go (ℕ-discrete r listTooShort)
   where
-    go : Dec (r ≡ answerTooShort) → r ≤ 100
+    go : Dec (r ≡ listTooShort) → r ≤ 100
     go (yes e) = omega arith
     go (no n) = told n .few
 

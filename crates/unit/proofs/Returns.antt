@@ -8,7 +8,7 @@ use mir.Val.{boolByte}
 use lib.ListN.{length}
 use Rattle.words.specs.Difference.{sharedOf, differenceOf}
 use Rattle.words.specs.declared.Comparison.{Comparison}
-use Rattle.transducer.specs.Refusals.{answerTooShort}
+use Rattle.transducer.specs.Refusals.{listTooShort}
 use Rattle.transducer.specs.Valid.{Shaped}
 use Rattle.transducer.specs.declared.StateSet.{StateSet}
 use Rattle.transducer.specs.declared.Transition.{Transition}
@@ -56,7 +56,7 @@ use Rattle.unit.specs.Calls.{PairsGiven, Edits, AppendGiven, RemoveGiven
 -- ---- how a call begins
 
 -- a list is too short
-pub too-short : {Long Unchanged : Type 0} {Answers : ℕ → Type 0} → (Long → ⊥) → Unchanged → Call Long Unchanged Answers answerTooShort
+pub too-short : {Long Unchanged : Type 0} {Answers : ℕ → Type 0} → (Long → ⊥) → Unchanged → Call Long Unchanged Answers listTooShort
 too-short few kept = record { short = λ _. (refl, kept); answers = λ long. absurd (few long) }
 
 -- none is

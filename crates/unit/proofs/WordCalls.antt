@@ -8,7 +8,7 @@ use Prim.Native.Nat.{ℕ, _≤_}
 use native.Mathlib.Omega.{arith}
 use lib.Dec.{eqb}
 use lib.ListN.{length, getD, take}
-use Rattle.transducer.specs.Refusals.{invalid, tooShort, answerTooShort}
+use Rattle.transducer.specs.Refusals.{invalid, tooShort, listTooShort}
 use Rattle.transducer.specs.Paths.{Functional}
 use Rattle.transducer.specs.Accepted.{acceptedOf}
 use Rattle.transducer.specs.Alike.{Alike}
@@ -126,7 +126,7 @@ translates-alike {t} {u} {out₁′ = out₁′} {out₂′ = out₂′} {r = r}
 
 pub alike-translation : {h g input out₁ out₁′ a a′ out₂ out₂′ c c′ : List ℕ} {r s : ℕ} → acceptedOf (tableIn h) ≡ true → acceptedOf (tableIn g) ≡ true
     → Alike (tableIn h) (tableIn g) → Functional (tableIn h) → mostWritten ≤ length out₁ → mostWritten ≤ length out₂
-    → TranslationGiven h input out₁ out₁′ a a′ r → r ≢ answerTooShort → TranslationGiven g input out₂ out₂′ c c′ s → s ≢ answerTooShort
+    → TranslationGiven h input out₁ out₁′ a a′ r → r ≢ listTooShort → TranslationGiven g input out₂ out₂′ c c′ s → s ≢ listTooShort
     → SameTranslation out₁′ out₂′ a′ c′ r s
 alike-translation {h} {g} {a = a} {c = c} accepted accepted′ alike functional room room′ one n other m =
     translates-alike accepted accepted′ alike functional room room′
@@ -161,6 +161,6 @@ tests-agree {t} {input} {output} {a} {a′} {out} {out′} functional room tests
     )
 
 pub agreement : {h input output a a′ out out′ c c′ : List ℕ} {r s : ℕ} → Functional (tableIn h) → AcceptsGiven h input output a a′ r → r ≡ 0
-    → mostWritten ≤ length out → TranslationGiven h input out out′ c c′ s → s ≢ answerTooShort → (getD a′ 0 0 ≡ 1) ↔ OutputGiven output out′ c′ s
+    → mostWritten ≤ length out → TranslationGiven h input out out′ c c′ s → s ≢ listTooShort → (getD a′ 0 0 ≡ 1) ↔ OutputGiven output out′ c′ s
 agreement {h} {a = a} {c = c} functional g z room k n =
     tests-agree functional room (done (g .call) (lent acceptsAnswer a h) z) z (answered (k .call) (lent translateAnswer c h) n)

@@ -6,7 +6,7 @@ use mathlib.Core.List.{List, [], _∷_}
 use Prim.Native.Nat.{ℕ, _≤_}
 use lib.ListN.{length}
 use Rattle.words.specs.Difference.{sharedOf, differenceOf}
-use Rattle.transducer.specs.Refusals.{answerTooShort}
+use Rattle.transducer.specs.Refusals.{listTooShort}
 use Rattle.transducer.specs.declared.Transducer.{Transducer}
 use Rattle.records.specs.Letters.{mostFields}
 use Rattle.tablereader.specs.Transitions.{transitionOf}
@@ -49,7 +49,7 @@ version = 65536
 -- a call needs lists that are long enough before it can begin: where one is too short it returns 100 before anything else, and nothing that is lent changes;
 -- else it answers
 pub record Call (Long Unchanged : Type 0) (Answers : ℕ → Type 0) (r : ℕ) : Type 0 where
-  pub short : (Long → ⊥) → (r ≡ answerTooShort) × Unchanged
+  pub short : (Long → ⊥) → (r ≡ listTooShort) × Unchanged
   pub answers : Long → Answers r
 
 -- the memory has the places of a held table

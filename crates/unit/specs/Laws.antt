@@ -9,7 +9,7 @@ use Prim.Native.Nat.{ℕ, _≤_, _<_, _/_, _%_}
 use lib.ListN.{length, getD, take, drop}
 use Rattle.buffers.specs.Put.{put}
 use Rattle.records.specs.Letters.{mostFields}
-use Rattle.transducer.specs.Refusals.{invalid, answerTooShort}
+use Rattle.transducer.specs.Refusals.{invalid, listTooShort}
 use Rattle.transducer.specs.Paths.{Functional}
 use Rattle.transducer.specs.Accepted.{acceptedOf}
 use Rattle.transducer.specs.Alike.{Alike}
@@ -117,8 +117,8 @@ pub record Returned : Type 0 where
   pub look : {h flags flags′ : List ℕ} {r : ℕ} → LookGiven h flags flags′ r → r ≤ 100
   pub difference : {x y a a′ : List ℕ} {r : ℕ} → DifferenceGiven x y a a′ r → r ≤ 100
   -- unless a list is too short, each refuses with 8 exactly where what is held is not accepted; of the join, either; the look never does
-  pub broken : {h : List ℕ} {r : ℕ} → Asked h r → r ≢ answerTooShort → (r ≡ invalid) ↔ (acceptedOf (tableIn h) ≡ false)
-  pub join-broken : {h g m m′ : List ℕ} {r : ℕ} → JoinGiven h g m m′ r → r ≢ answerTooShort
+  pub broken : {h : List ℕ} {r : ℕ} → Asked h r → r ≢ listTooShort → (r ≡ invalid) ↔ (acceptedOf (tableIn h) ≡ false)
+  pub join-broken : {h g m m′ : List ℕ} {r : ℕ} → JoinGiven h g m m′ r → r ≢ listTooShort
       → (r ≡ invalid) ↔ ((acceptedOf (tableIn h) && acceptedOf (tableIn g)) ≡ false)
   pub look-not-8 : {h flags flags′ : List ℕ} {r : ℕ} → LookGiven h flags flags′ r → r ≢ invalid
 
@@ -172,7 +172,7 @@ pub record Boundary : Type 0 where
   pub look-shows : {h flags flags₁ flags₂ : List ℕ} {r₁ r₂ : ℕ} → MadeIn h → LookGiven h flags flags₁ r₁ → StatesGiven h flags flags₂ r₂
       → (r₁ ≡ r₂) × (flags₁ ≡ flags₂)
   -- demand 2: writing a read file gives its bytes, where there is room for them; reading a written table gives that table
-  pub read-then-write : {f m h out out′ a a′ : List ℕ} {r s : ℕ} → ReadGiven f m h r → r ≡ 0 → WriteGiven h out out′ a a′ s → s ≢ answerTooShort
+  pub read-then-write : {f m h out out′ a a′ : List ℕ} {r s : ℕ} → ReadGiven f m h r → r ≡ 0 → WriteGiven h out out′ a a′ s → s ≢ listTooShort
       → length f ≤ length out → (s ≡ 0) × (out′ ≡ put out 0 f) × (a′ ≡ put a 0 (length f ∷ []))
   pub write-then-read : {h out out′ a a′ m m′ : List ℕ} {r s : ℕ} → WriteGiven h out out′ a a′ r → r ≡ 0 → ReadGiven (take (getD a′ 0 0) out′) m m′ s
       → Holding m → (s ≡ 0) × (tableIn m′ ≡ tableIn h)
@@ -185,12 +185,12 @@ pub record Boundary : Type 0 where
   -- and where they are single, lent the full 65,528 places, every word gets the same refusal or the same output
   pub alike-translation : {h g input out₁ out₁′ a a′ out₂ out₂′ c c′ : List ℕ} {r s : ℕ} → acceptedOf (tableIn h) ≡ true → acceptedOf (tableIn g) ≡ true
       → Alike (tableIn h) (tableIn g) → Functional (tableIn h) → mostWritten ≤ length out₁ → mostWritten ≤ length out₂
-      → TranslationGiven h input out₁ out₁′ a a′ r → r ≢ answerTooShort → TranslationGiven g input out₂ out₂′ c c′ s → s ≢ answerTooShort
+      → TranslationGiven h input out₁ out₁′ a a′ r → r ≢ listTooShort → TranslationGiven g input out₂ out₂′ c c′ s → s ≢ listTooShort
       → SameTranslation out₁′ out₂′ a′ c′ r s
   -- document 02, job 1: for a single table, yes agrees with what the translator gives when lent the full 65,528 places; for words that the word test does
   -- not refuse
   pub agreement : {h input output a a′ out out′ c c′ : List ℕ} {r s : ℕ} → Functional (tableIn h) → AcceptsGiven h input output a a′ r → r ≡ 0
-      → mostWritten ≤ length out → TranslationGiven h input out out′ c c′ s → s ≢ answerTooShort → (getD a′ 0 0 ≡ 1) ↔ OutputGiven output out′ c′ s
+      → mostWritten ≤ length out → TranslationGiven h input out out′ c c′ s → s ≢ listTooShort → (getD a′ 0 0 ≡ 1) ↔ OutputGiven output out′ c′ s
   -- ---- two tables in series (document 02, job 3)
   pub in-series : {h g m m′ : List ℕ} {r : ℕ} → JoinGiven h g m m′ r → r ≡ 0 → SeriesOf (tableIn h) (tableIn g) (tableIn m′)
   -- two tables that the verdict calls single are joined to one that it calls single

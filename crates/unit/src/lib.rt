@@ -12,7 +12,7 @@ use records::reading::MOST_FIELDS;
 use transducer::refusals;
 
 // The refusal of a list that is shorter than the call needs before it can begin.
-const LIST_TOO_SHORT: u32 = refusals::ANSWER_TOO_SHORT as u32;
+const LIST_TOO_SHORT: u32 = refusals::LIST_TOO_SHORT as u32;
 
 // The version of the calls, of their answers and of held tables: 1.0.
 const VERSION: u32 = 65536;
