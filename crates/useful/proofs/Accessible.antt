@@ -1,41 +1,20 @@
--- What a search over the states has found: the states that a path leads to; and a state is useful exactly when it is accessible in the
--- transducer and in the reversed one. Assumes nothing.
-use mathlib.Core.Path.{_≡_, refl, sym, ap, _∙_}
-use mathlib.Core.Bool.{false, true≢false}
+-- What the sets of steps reach is what a path leads to; and a state is useful exactly when it is accessible in the transducer and in the reversed
+-- one. Assumes nothing.
+use mathlib.Core.Path.{refl}
 use mathlib.Core.List.{List, [], _∷_, _++_}
 use mathlib.Core.Logic.{_↔_}
-use Prim.Native.Nat.{ℕ, _<_}
-use native.Mathlib.Omega.{arith}
-use lib.ListN.{getD}
-use Rattle.worklist.specs.Search.{Reach}
-use Rattle.worklist.specs.Search.Reach.{start, step as edge}
-use Rattle.transducer.specs.Limits.{mostStates}
-use Rattle.transducer.specs.StateSet.{has, In, noStates}
+use Prim.Native.Nat.{ℕ}
+use Rattle.transducer.specs.StateSet.{In}
+use Rattle.transducer.specs.Transition.{at}
 use Rattle.transducer.specs.Paths.{Path, here, step}
 use Rattle.transducer.specs.Useful.{UsefulState}
 use Rattle.transducer.specs.Reversal.{reversedOf}
-use Rattle.transducer.specs.Walks.{Edge}
 use Rattle.transducer.specs.declared.StateSet.{StateSet}
 use Rattle.transducer.specs.declared.Transducer.{Transducer}
-use Rattle.transducer.proofs.Facts.{in-below}
 use Rattle.transducer.proofs.PathLaws.{path-join}
 use Rattle.transducer.proofs.ReversalLaws.{reversed-path}
-use Rattle.transducer.proofs.StateSetLaws.{has-none}
-use Rattle.product.specs.Machine.{ImageOf}
-use Rattle.product.proofs.ImageLaws.{edge-of, leaves-of, to-of}
-use Rattle.wordsearch.specs.Nodes.{positionOf, stateOf, Leads, Ended}
-use Rattle.useful.specs.UsefulStates.{Searched, CommonOf}
-
--- a search that ends nowhere, since no state is final, finds exactly what transitions lead to
-pub searched : {m order rank parent via : List ℕ} {starts finals : StateSet} {N r : ℕ} → finals ≡ noStates → N ≡ mostStates
-    → Ended false m [] starts finals N order rank parent via r → Searched m starts rank
-searched {order = order} {r = r} e n (Ended.met g h x) =
-    let q = stateOf (getD order r 0) in absurd (true≢false (sym (x .final) ∙ ap (λ s. has s q) e ∙ has-none q))
-searched e n (Ended.all q x none) =
-    record {
-      long = x .grown .size ∙ n;
-      members = λ v. (λ f. let s = x .sound v f in (s .0, s .2), λ r. x .complete (r .0) v (r .1));
-    }
+use Rattle.useful.specs.Sets.{Has, StepsOf, Reached}
+use Rattle.useful.specs.UsefulStates.{CommonOf}
 
 -- a path from a start state leads to q
 record Accessible (t : Transducer) (q : ℕ) : Type 0 where
@@ -44,49 +23,31 @@ record Accessible (t : Transducer) (q : ℕ) : Type 0 where
   starts : In (t .starts) first
   comes : Path t first front q
 
-module _ {t : Transducer} {m : List ℕ} (image : ImageOf t false m) where
-  -- what the search reaches is a state, and accessible
-  reach-accessible : {k q : ℕ} → Reach (In (t .starts)) (Leads false m []) k q → (q < mostStates) × Accessible t q
-  reach-accessible (start {v = q} s) = (in-below (t .starts) q s, record { first = q; front = []; starts = s; comes = here refl })
-  reach-accessible (edge {u = u} {l = l} {v = v} r e) =
-      let a = reach-accessible r in
-      let x = edge-of image (e .leaves) in
-      let here-state : stateOf u ≡ u = omega (arith, a .0) in
-      let low : v < mostStates = omega (arith, e .position, a .0) in
-      let there-state : stateOf v ≡ v = omega arith in (
-        low,
-        record {
-          first = a .1 .first;
-          front = a .1 .front ++ (l ∷ []);
-          starts = a .1 .starts;
-          comes = path-join (a .1 .comes) (step (x .used) (x .source ∙ here-state) (here (x .target ∙ e .target ∙ there-state)));
-        },
-      )
-
-  -- the search takes a transition that leaves a state
-  edge-leads : {l p q : ℕ} → Edge t l p q → p < mostStates → (q < mostStates) × Leads false m [] p l q
-  edge-leads {l} {p} {q} e h =
-      let x = leaves-of image e in
-      let to = to-of image e in
-      let low : q < mostStates = omega (arith, to, image .machine .to-state l (x .used)) in
-      let here-state : stateOf p ≡ p = omega arith in
-      let there-state : q ≡ stateOf q = omega arith in
-      let stays : positionOf q ≡ positionOf p = omega arith in
-      (low, record { leaves = rw here-state x; target = to ∙ there-state; position = omega arith; reads = rw stays })
+module _ {t : Transducer} {list : List ℕ} {s : ℕ} (steps : StepsOf t list) (starts : (q : ℕ) → Has s q ↔ In (t .starts) q) where
+  -- what is reached is accessible
+  reached-accessible : {q : ℕ} → Reached list s q → Accessible t q
+  reached-accessible (Reached.start {q = q} h) = record { first = q; front = []; starts = starts q .0 h; comes = here refl }
+  reached-accessible (Reached.step {p = p} {q = q} r h) =
+      let a = reached-accessible r in
+      let e = steps .leads p q .0 h in
+      record {
+        first = a .first;
+        front = a .front ++ (e .0 ∷ []);
+        starts = a .starts;
+        comes = path-join (a .comes) (step (e .1 .used) (e .1 .source) (here (e .1 .target)));
+      }
 
   -- a path goes on from what is reached
-  reach-along : {k p q : ℕ} {π : List ℕ} → Reach (In (t .starts)) (Leads false m []) k p → p < mostStates → Path t p π q
-      → (i : ℕ) × Reach (In (t .starts)) (Leads false m []) i q
-  reach-along {k} r b (here e) = (k, rw (← e) r)
-  reach-along r b (step {l = l} u s h) =
-      let x = edge-leads (record { used = u; source = s; target = refl }) b in
-      reach-along (edge r (x .1)) (x .0) h
+  reached-along : {p q : ℕ} {π : List ℕ} → Reached list s p → Path t p π q → Reached list s q
+  reached-along r (here e) = rw (← e) r
+  reached-along {p} r (step {l = l} u f h) =
+      reached-along (Reached.step r (steps .leads p (at t l .to) .1 (l, record { used = u; source = f; target = refl }))) h
 
-  -- the search reaches exactly what is accessible
-  searched-accessible : {rank : List ℕ} → Searched m (t .starts) rank → (q : ℕ) → (0 < getD rank q 0) ↔ Accessible t q
-  searched-accessible s q = (
-    λ f. reach-accessible (s .members q .0 f .1) .1,
-    λ a. s .members q .1 (reach-along (start (a .starts)) (in-below (t .starts) (a .first) (a .starts)) (a .comes)),
+  -- what is reached is exactly what is accessible
+  accessible : {r : ℕ} → ((q : ℕ) → Has r q ↔ Reached list s q) → (q : ℕ) → Has r q ↔ Accessible t q
+  accessible found q = (
+    λ h. reached-accessible (found q .0 h),
+    λ a. found q .1 (reached-along (Reached.start (starts (a .first) .1 (a .starts))) (a .comes)),
   )
 
 -- a state is useful exactly when it is accessible from the start states, and backwards from the final states
@@ -112,15 +73,15 @@ useful-accessible {t} = (
       },
 )
 
--- what both searches have found is what is useful
-pub useful-members : {t : Transducer} {m m′ a b : List ℕ} {s : StateSet} → ImageOf t false m → Searched m (t .starts) a
-    → ImageOf (reversedOf t) false m′ → Searched m′ (t .finals) b → CommonOf a b s → (q : ℕ) → In s q ↔ UsefulState t q
+-- what is reached both ways is what is useful
+pub useful-members : {t : Transducer} {ahead back : List ℕ} {starts finals a b : ℕ} {s : StateSet} → StepsOf t ahead → StepsOf (reversedOf t) back
+    → ((q : ℕ) → Has starts q ↔ In (t .starts) q) → ((q : ℕ) → Has finals q ↔ In (t .finals) q)
+    → ((q : ℕ) → Has a q ↔ Reached ahead starts q) → ((q : ℕ) → Has b q ↔ Reached back finals q)
+    → CommonOf a b s → (q : ℕ) → In s q ↔ UsefulState t q
 unfolding reversedOf
-useful-members there f back g c q = (
-  λ i.
-      let m = c .members q .0 i in
-      useful-accessible .1 (searched-accessible there f q .0 (m .0), searched-accessible back g q .0 (m .1)),
-  λ u.
-      let m = useful-accessible .0 u in
-      c .members q .1 (searched-accessible there f q .1 (m .0), searched-accessible back g q .1 (m .1)),
-)
+useful-members there back starts finals reached reaching c q =
+    let f = accessible there starts reached q in
+    let g = accessible back finals reaching q in (
+      λ i. let m = c .members q .0 i in useful-accessible .1 (f .0 (m .0), g .0 (m .1)),
+      λ u. let m = useful-accessible .0 u in c .members q .1 (f .1 (m .0), g .1 (m .1)),
+    )

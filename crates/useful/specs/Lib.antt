@@ -1,2 +1,3 @@
--- What `useful_states` answers.
+-- What `useful_states` answers, and sets of states as numbers.
 pub mod UsefulStates
+pub mod Sets

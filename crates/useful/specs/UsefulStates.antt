@@ -1,10 +1,9 @@
 -- What `useful_states` answers, and what its parts do.
 use mathlib.Core.Path.{_≡_}
 use mathlib.Core.Bool.{true, false, cond}
-use mathlib.Core.List.{List, []}
 use mathlib.Core.Logic.{_↔_}
-use Prim.Native.Nat.{ℕ, _<_}
-use lib.ListN.{length, getD}
+use Prim.Native.Nat.{ℕ}
+use lib.ListN.{length}
 use Rattle.transducer.specs.Limits.{mostStates}
 use Rattle.transducer.specs.StateSet.{In, noStates}
 use Rattle.transducer.specs.Accepted.{acceptedOf}
@@ -12,8 +11,7 @@ use Rattle.transducer.specs.Refusals.{invalid}
 use Rattle.transducer.specs.Useful.{UsefulState}
 use Rattle.transducer.specs.declared.StateSet.{StateSet}
 use Rattle.transducer.specs.declared.Transducer.{Transducer}
-use Rattle.worklist.specs.Search.{Reach}
-use Rattle.wordsearch.specs.Nodes.{Leads}
+use Rattle.useful.specs.Sets.{Has}
 use Rattle.useful.specs.declared.Outcome.{Outcome}
 use Rattle.useful.specs.declared.Outcome.the-variants.{Found, Invalid}
 use Rattle.useful.specs.declared.UsefulStates.{UsefulStates}
@@ -32,12 +30,7 @@ pub record UsefulStatesOf (t : Transducer) (r : UsefulStates) : Type 0 where
 
 -- ---- the parts
 
--- the list gives a number other than 0 exactly to the states to which transitions of the machine lead from a start state
-pub record Searched (m : List ℕ) (starts : StateSet) (rank : List ℕ) : Type 0 where
-  pub long : length rank ≡ mostStates
-  pub members : (q : ℕ) → (0 < getD rank q 0) ↔ ((k : ℕ) × Reach (In starts) (Leads false m []) k q)
-
--- the set has exactly the states to which both lists give a number other than 0
-pub record CommonOf (a b : List ℕ) (r : StateSet) : Type 0 where
-  pub members : (q : ℕ) → In r q ↔ ((0 < getD a q 0) × (0 < getD b q 0))
+-- the set has exactly the states that are in both
+pub record CommonOf (a b : ℕ) (r : StateSet) : Type 0 where
+  pub members : (q : ℕ) → In r q ↔ (Has a q × Has b q)
   pub long : length (r .member) ≡ mostStates

@@ -1,20 +1,19 @@
 // The useful states of a transducer, those through which an accepting path passes: worked out, compared with the set that a value keeps, and put into a
-// value that is made. A search from the start states and one from the final states over the reversed transducer find them: a state is useful exactly when
-// both find it. The contract of `useful_states` cites specs/UsefulStates.antt; those of `accepted` and `keep` cite definitions of the crate `transducer`.
+// value that is made. A state is useful exactly when it is reached from a start state by transitions and from a final state against them: two sets, which
+// `sets` works out as numbers. The contract of `useful_states` cites specs/UsefulStates.antt; those of `accepted` and `keep` cite definitions of the crate
+// `transducer`.
 ghost use mathlib.Core.Path.{_≡_};
-ghost use lib.ListN.{length, replicate};
-ghost use Rattle.transducer.specs.Limits.{mostStates};
 ghost use Rattle.transducer.specs.Valid.{Valid};
 ghost use Rattle.transducer.specs.Lines.{usefulIn, keeping};
 ghost use Rattle.transducer.specs.Accepted.{sameStates, Asked};
-ghost use Rattle.product.specs.Machine.{Machine};
-ghost use Rattle.useful.specs.UsefulStates.{numberOf, Searched, CommonOf, UsefulStatesOf};
-use product::machine;
+ghost use Rattle.useful.specs.UsefulStates.{numberOf, CommonOf, UsefulStatesOf};
 use transducer::StateSet;
 use transducer::Transducer;
 use transducer::limits;
 use transducer::refusals;
 use transducer::validity;
+
+mod sets;
 
 // How `useful_states` ends: the set was found, or the value is not accepted.
 pub enum Outcome {
@@ -93,60 +92,32 @@ fn same(a: StateSet, b: StateSet) -> bool
     ok
 }
 
-// The useful states of t: those that both searches find.
+// The useful states of t: those that are reached from a start state and from which a final state is reached.
 fn worked_out(t: Transducer) -> StateSet
     requires { ⌜ Valid t ⌝ }
     ensures { λ r. ⌜ r ≡ usefulIn t ⌝ }
 {
-    let mut m = [0u16; machine::PLACES];
-    let mut into = [0u32; limits::STATES];
-    let mut out = [0u32; limits::STATES];
-    let starts = t.starts;
-    let finals = t.finals;
-    machine::by_input(t, &mut m);
-    search(&m, starts, &mut into);
-    machine::by_input_reversed(t, &mut m);
-    search(&m, finals, &mut out);
-    common(&into, &out)
+    let mut ahead = [0u32; limits::STATES];
+    let mut back = [0u32; limits::STATES];
+    let starts = sets::number(t.starts);
+    let finals = sets::number(t.finals);
+    sets::steps(t, &mut ahead, &mut back);
+    let into = sets::reached(&ahead, starts);
+    let out = sets::reached(&back, finals);
+    common(into, out)
 }
 
-// The states to which both lists give a number other than 0.
-fn common(a: &[u32], b: &[u32]) -> StateSet
-    requires { ⌜ (length (now a) ≡ mostStates) × (length (now b) ≡ mostStates) ⌝ }
-    ensures { λ r. ⌜ CommonOf (now (a .entry)) (now (b .entry)) r ⌝ }
+// The states that are in both sets.
+fn common(a: u32, b: u32) -> StateSet
+    ensures { λ r. ⌜ CommonOf a b r ⌝ }
 {
     let mut states = StateSet::empty();
-    let mut q: usize = 0;
-    while q < limits::STATES {
-        if (0 < a[q]) & (0 < b[q]) {
+    let mut q: u32 = 0;
+    while q < limits::STATES as u32 {
+        if sets::has(a, q) & sets::has(b, q) {
             states = states.with(q as u8);
         }
         q += 1;
     }
     states
-}
-
-// Gives each state to which transitions lead from a start state a number other than 0: a search over the nodes of the empty word that reads
-// nothing.
-fn search(m: &[u16], starts: StateSet, rank: &mut [u32])
-    requires { ⌜ Machine (now m) ⌝ }
-    requires { ⌜ now rank ≡ replicate mostStates 0 ⌝ }
-    ensures { λ _. ⌜ Searched (now (m .entry)) starts (now (rank .exit)) ⌝ }
-{
-    let word = [0u8; 0];
-    let mut order = [0u32; limits::STATES];
-    let mut parent = [0u32; limits::STATES];
-    let mut via = [0u32; limits::STATES];
-    let finals = StateSet::empty();
-    wordsearch::search(
-        m,
-        false,
-        starts,
-        finals,
-        &word,
-        &mut order,
-        rank,
-        &mut parent,
-        &mut via,
-    );
 }

@@ -1,7 +1,7 @@
 -- How the search answers: at a node where an accepting path ends the parents lead back along one, and where no node found is such a node there
 -- is no accepting path that reads the word.
 use mathlib.Core.Path.{_≡_, sym, ap, _∙_}
-use mathlib.Core.Bool.{true, false}
+use mathlib.Core.Bool.{false}
 use mathlib.Core.List.{List, append-nil}
 use mathlib.Core.Logic.{⊎-elim}
 use Prim.Native.Nat.{ℕ, _+_, _*_, _≤_, _<_}
@@ -32,7 +32,7 @@ use Rattle.wordsearch.proofs.PathsOfNodes.{trail-spells, accepting-reac
 
 module _ {t : Transducer} (valid : Valid t) {m : List ℕ} (image : ImageOf t false m) {input : List ℕ} {N : ℕ} where
   -- a place whose node ends an accepting path is an answer
-  hit : {s : Worklist} {i : ℕ} → N ≤ mostNodes → Grown (In (t .starts)) (Leads true m input) N s → i < s .count
+  hit : {s : Worklist} {i : ℕ} → N ≤ mostNodes → Grown (In (t .starts)) (Leads m input) N s → i < s .count
       → Ends (t .finals) input (getD (s .order) i 0) → Answered t (s .parent) (s .via) (wordOf input) i
   hit {s} {i} same g h e =
       let n = lengths g in
@@ -56,7 +56,7 @@ module _ {t : Transducer} (valid : Valid t) {m : List ℕ} (image : ImageOf t fa
       (sym (append-nil _) ∙ rw (e .position ∙ sym (length-word input), drop-length (wordOf input)) at (p .read))
 
   -- where no place found has such a node, there is no accepting path
-  miss : {s : Worklist} → Exact (In (t .starts)) (Leads true m input) N s
+  miss : {s : Worklist} → Exact (In (t .starts)) (Leads m input) N s
       → ((i : ℕ) → i < s .count → Ends (t .finals) input (getD (s .order) i 0) → ⊥)
       → (y : OutputWord) → Relates t (wordOf input) y → ⊥
   miss x none y r =
@@ -68,7 +68,7 @@ module _ {t : Transducer} (valid : Valid t) {m : List ℕ} (image : ImageOf t fa
       none (i .0) (i .1) (rw (i .2) (record { position = omega (arith, length-word input); final = rw same (a .ends) }))
 
   -- however the search ends, that is an answer
-  pub answered : {order rank parent via : List ℕ} {r : ℕ} → N ≤ mostNodes → Ended true m input (t .starts) (t .finals) N order rank parent via r
+  pub answered : {order rank parent via : List ℕ} {r : ℕ} → N ≤ mostNodes → Ended m input (t .starts) (t .finals) N order rank parent via r
       → Answered t parent via (wordOf input) r
   answered same (Ended.met g h e) = hit same g h e
   answered same (Ended.all e x none) = Answered.none e (miss x none)

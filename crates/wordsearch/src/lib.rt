@@ -6,15 +6,15 @@ ghost use mathlib.Core.Bool.{_&&_};
 ghost use Prim.Native.Nat.{_<_, _≤_};
 ghost use lib.Dec.{eqb};
 ghost use lib.ListN.{length};
-ghost use Rattle.transducer.specs.Limits.{mostStates, mostTransitions};
+ghost use Rattle.transducer.specs.Limits.{mostStates};
 ghost use Rattle.transducer.specs.StateSet.{In, has};
 ghost use Rattle.transducer.specs.Transition.{wordOf};
 ghost use Rattle.transducer.specs.Valid.{Valid};
 ghost use Rattle.worklist.specs.Lists.{lists};
 ghost use Rattle.worklist.specs.Search.{Blank, Rooted};
-ghost use Rattle.product.specs.Machine.{mostPlaces, Machine, Leaves};
+ghost use Rattle.product.specs.Machine.{Machine, Leaves};
 ghost use Rattle.wordsearch.specs.Limits.{mostWord, mostNodes};
-ghost use Rattle.wordsearch.specs.Nodes.{positionOf, stateOf, codeOf, Leads, Room, Lent, Ready, Done, Ended};
+ghost use Rattle.wordsearch.specs.Nodes.{positionOf, stateOf, Leads, Room, Lent, Ready, Done, Ended};
 ghost use Rattle.wordsearch.specs.Answers.{NodeOf, Answered};
 use product::machine;
 use product::machine::NO_TRANSITION;
@@ -47,14 +47,13 @@ pub fn find(
     let starts = t.starts;
     let finals = t.finals;
     machine::by_input(t, &mut m);
-    search(&m, true, starts, finals, input, order, rank, parent, via)
+    search(&m, starts, finals, input, order, rank, parent, via)
 }
 
 // Finds the nodes to which transitions lead from the start states, in order, until none is left or one is met where a path ends: its place, or
-// NOWHERE. Where `reading` says no, each transition counts as one that reads nothing.
-pub fn search(
+// NOWHERE.
+fn search(
     m: &[u16],
-    reading: bool,
     starts: StateSet,
     finals: StateSet,
     input: &[u8],
@@ -65,7 +64,7 @@ pub fn search(
 ) -> u32
     requires { ⌜ Lent (now m) (now input) (length (now rank)) ⌝ }
     requires { ⌜ Blank (length (now rank)) (lists (now order) (now rank) (now parent) (now via) 0) ⌝ }
-    ensures { λ r. ⌜ Ended reading (now (m .entry)) (now (input .entry)) starts finals (length (now (rank .entry)))
+    ensures { λ r. ⌜ Ended (now (m .entry)) (now (input .entry)) starts finals (length (now (rank .entry)))
         (now (order .exit)) (now (rank .exit)) (now (parent .exit)) (now (via .exit)) r ⌝ }
 {
     let mut n = roots(starts, order, rank, parent, via);
@@ -75,7 +74,7 @@ pub fn search(
         if ends(finals, input, node) {
             return head;
         }
-        n = expand(m, reading, input, order, rank, parent, via, n, head);
+        n = expand(m, input, order, rank, parent, via, n, head);
         head += 1;
     }
     NOWHERE
@@ -115,7 +114,6 @@ fn ends(finals: StateSet, input: &[u8], node: u32) -> bool
 // Visits each node to which a transition leads from the node at the place `head`.
 fn expand(
     m: &[u16],
-    reading: bool,
     input: &[u8],
     order: &mut [u32],
     rank: &mut [u32],
@@ -125,8 +123,8 @@ fn expand(
     head: u32,
 ) -> u32
     requires { ⌜ Lent (now m) (now input) (length (now rank)) ⌝ }
-    requires { ⌜ Ready reading (now m) (now input) (length (now rank)) (lists (now order) (now rank) (now parent) (now via) count) head ⌝ }
-    ensures { λ n. ⌜ Done reading (now (m .entry)) (now (input .entry)) (length (now (rank .entry)))
+    requires { ⌜ Ready (now m) (now input) (length (now rank)) (lists (now order) (now rank) (now parent) (now via) count) head ⌝ }
+    ensures { λ n. ⌜ Done (now (m .entry)) (now (input .entry)) (length (now (rank .entry)))
         (lists (now (order .entry)) (now (rank .entry)) (now (parent .entry)) (now (via .entry)) count)
         (lists (now (order .exit)) (now (rank .exit)) (now (parent .exit)) (now (via .exit)) n) head ⌝ }
 {
@@ -134,7 +132,7 @@ fn expand(
     let mut n = count;
     let mut l = machine::head(m, node % STATES);
     while l < NO_TRANSITION {
-        let next = target(m, reading, input, node, l);
+        let next = target(m, input, node, l);
         if next < NOWHERE {
             n = worklist::visit(order, rank, parent, via, n, next, head + 1, l as u32);
         }
@@ -145,15 +143,15 @@ fn expand(
 
 // The node to which transition l leads from `node`, whose state it leaves, or NOWHERE where it leads nowhere: one that reads nothing stays at its
 // position, any other needs its code there and goes on by one.
-fn target(m: &[u16], reading: bool, input: &[u8], node: u32, l: u16) -> u32
+fn target(m: &[u16], input: &[u8], node: u32, l: u16) -> u32
     requires { ⌜ Machine (now m) ⌝ }
     requires { ⌜ length (now input) ≤ mostWord ⌝ }
     requires { ⌜ node < mostNodes ⌝ }
     requires { ⌜ Leaves (now m) l (stateOf node) ⌝ }
-    ensures { λ r. ⌜ NodeOf (Leads reading (now (m .entry)) (now (input .entry)) node l) r ⌝ }
+    ensures { λ r. ⌜ NodeOf (Leads (now (m .entry)) (now (input .entry)) node l) r ⌝ }
 {
     let to = machine::to(m, l) as u32;
-    let read = code(m, reading, l);
+    let read = machine::key(m, l);
     let position = (node / STATES) as usize;
     if read == 0 {
         return node / STATES * STATES + to;
@@ -165,16 +163,4 @@ fn target(m: &[u16], reading: bool, input: &[u8], node: u32, l: u16) -> u32
         return NOWHERE;
     }
     (node / STATES + 1) * STATES + to
-}
-
-// The code that transition l reads; 0 where it reads nothing.
-fn code(m: &[u16], reading: bool, l: u16) -> u16
-    requires { ⌜ length (now m) ≡ mostPlaces ⌝ }
-    requires { ⌜ l < mostTransitions ⌝ }
-    ensures { λ r. ⌜ r ≡ codeOf reading (now (m .entry)) l ⌝ }
-{
-    if reading {
-        return machine::key(m, l);
-    }
-    0
 }

@@ -1,70 +1,56 @@
--- `worked_out` meets its contract: a state is useful exactly when both searches find it. Assumes nothing.
+-- `worked_out` meets its contract: a state is useful exactly when it is reached both ways. Assumes nothing.
 use mathlib.Core.Path.{refl}
-use Prim.Native.Nat.{ℕ}
 use borrow.Author.Needs.{needs}
-use lib.ListN.{length-replicate}
 use Rattle.transducer.proofs.AcceptedLaws.{set-worked-out}
 use Rattle.useful.proofs.Accessible.{useful-members}
 use Rattle.useful.proofs.worked_out.Statement.{statement}
 use Rattle.useful.proofs.worked_out.Tie as tie
 
--- ---- places: the start, the machine and what is searched with it, the reversed machine and what is searched with it
+-- ---- places: the start, the sets of the steps, what is reached one way
 
-abbrev start : tie.After-m → tie.Start
-start c = c .before .before .before
+abbrev start : tie.After-back → tie.Start
+start c = c .before .before .before .before
 
-abbrev written : tie.After-into → tie.After-by-input
-written c = c .before .before .before
+abbrev made : tie.After-ahead3 → tie.After-steps
+made c = c .before .before .before
 
-abbrev forward : tie.After-m4 → tie.After-search
-forward c = c .before .before
-
-abbrev reversed : tie.After-out → tie.After-by-input-reversed
-reversed c = c .before .before .before
-
-abbrev backward : tie.After-common → tie.After-search2
-backward c = c .before .before .before .before
+abbrev ahead : tie.After-back3 → tie.After-reached
+ahead c = c .before
 
 -- ---- needs
 
-by-input-requires : tie.Need-by-input-requires
-by-input-requires c κs = (start c .pre, length-replicate {A = ℕ} _ 0)
+steps-requires : tie.Need-steps-requires
+steps-requires c κs = (start c .pre, (refl, refl))
 
-search-requires : tie.Need-search-requires
-search-requires c κs = (written c .by-input .ensures .machine, refl)
+reached-requires : tie.Need-reached-requires
+reached-requires c κs = made c .steps .ensures .0 .sets
 
-by-input-reversed-requires : tie.Need-by-input-reversed-requires
-by-input-reversed-requires c κs =
-    let w = written (forward c .before) in
-    (start (w .before) .pre, w .by-input .ensures .machine .long)
-
-search-requires-2 : tie.Need-search-requires-2
-search-requires-2 c κs = (reversed c .by-input-reversed .ensures .machine, refl)
+reached-requires-2 : tie.Need-reached-requires-2
+reached-requires-2 c κs = made (ahead c .before) .steps .ensures .1 .sets
 
 returns : tie.Need-returns
 returns c =
-    let b = backward c in
-    let r = reversed (b .before) in
-    let f = forward (r .before) in
-    let w = written (f .before) in
-    set-worked-out _ (start (w .before) .pre) (c .common .ensures .long)
-    (useful-members (w .by-input .ensures) (f .search .ensures) (r .by-input-reversed .ensures) (b .search2 .ensures) (c .common .ensures))
+    let r = c .before in
+    let a = ahead (r .before) in
+    let m = made (a .before) in
+    let b = m .before in
+    set-worked-out _ (start b .pre) (c .common .ensures .long)
+    (useful-members (m .steps .ensures .0) (m .steps .ensures .1)
+    (b .before .before .before .number .ensures) (b .before .before .number2 .ensures)
+    (a .reached .ensures) (r .reached2 .ensures) (c .common .ensures))
 
 pub worked-out-spec : {M : Type 1} → statement M
 worked-out-spec =
     tie.close
     (tie.spec
-    (λ c. search needs)
-    by-input-requires
-    (λ c. search needs)
-    (λ c. search needs)
-    search-requires
-    (λ c. search needs)
-    by-input-reversed-requires
+    (λ c κs. search needs)
+    (λ c κs. search needs)
     (λ c. search needs)
     (λ c. search needs)
-    search-requires-2
+    steps-requires
     (λ c. search needs)
+    reached-requires
     (λ c. search needs)
+    reached-requires-2
     (λ c κs. search needs)
     returns)
