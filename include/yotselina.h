@@ -7,7 +7,7 @@
  *
  * SYNOPSIS
  *   #include "yotselina.h"
- *   cc -Iinclude program.c target/staticlib/libunit.a        (`rt staticlib unit` writes the archive: x86-64 Linux)
+ *   cc -Iinclude program.c target/lib/libyotselina.a        (`./make-library` writes the archive and a shared object: x86-64 Linux)
  *
  *   static uint8_t table[YOTSELINA_TABLE];
  *   r = yotselina_read(file, file_length, table, sizeof table);                                         once
