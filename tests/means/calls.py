@@ -69,7 +69,7 @@ def look_at(library, findings, random, group, held, useful, note=""):
     Whatever is drawn after it is the same as without it."""
     call = library.call(copy(random), "look", held)
     faults = owes_only(call, flags=flags_of(useful))
-    findings.check(f"library, {group}", faults, held, f"useful states: {sorted(useful)}\n{note}".rstrip())
+    findings.check(f"library, {group}", faults, call.inputs[0], f"useful states: {sorted(useful)}\n{note}".rstrip())
     findings.count(f"library, {group}, useful states", f"{len(useful)}:" if len(useful) in (0, 1, MAX_STATES) else f"2 to {MAX_STATES - 1}:")
     return not faults
 
@@ -78,8 +78,9 @@ def written(library, findings, random, group, held, content, note=""):
     """A held table written, which must give this file, and the file read again, which must give the table: both compared whole. Returns whether it is
     so. Whatever is drawn after it is the same as without it."""
     random = copy(random)
-    faults = owes_only(library.call(random, "write", held), out=content, answer=(len(content),))
-    faults += owes_only(library.call(random, "read", content), table=held)
+    call = library.call(random, "write", held)
+    faults = owes_only(call, out=content, answer=(len(content),))
+    faults += owes_only(library.call(random, "read", content), table=call.inputs[0][:HELD])
     findings.check(f"library, {group}, written and read again", faults, content, note)
     return not faults
 

@@ -42,21 +42,26 @@ def by_text(content, name, given):
 
 
 class Edited:
-    """A table that the library reads and edits, held in one memory, and beside it the table that the reference's edits make of the table at first."""
+    """A table that the library reads and then edits where it is held (`lent`: one memory for all calls, with some places more behind the table), and
+    beside it the table that the reference's edits make of the table at first."""
 
     group = GROUP
 
     def __init__(self, library, findings, random, transducer):
         self.library, self.findings, self.random = library, findings, random
         self.table, self.useful = transducer, generate.useful_states(transducer)
-        call = library.call(random, "read", table_file(transducer))
+        call = library.call(random, "read", table_file(transducer), table=HELD + random.choice((0, 1, 9)))
         check(findings, f"{self.group}, read", call)
-        self.held = held_by(call)
+        self.lent = call.lent["table"]
+        self.lent.keep()
+
+    def held(self):
+        return self.lent.content()[:HELD]
 
     def edit(self, what, name, given):
         """One edit: what it owes, a refusal and that nothing which is lent has changed, or the whole table. Returns whether all is so."""
         before, note = table_file(self.table), f"{what}\n{as_note([given])}"
-        call = self.library.call(self.random, name, self.held, given)
+        call = self.library.call(self.random, name, self.lent, given)
         self.findings.count(f"library, {self.group}, {name}", what)
         if not check(self.findings, f"{self.group}, {name}", call, note):
             return False
@@ -71,22 +76,23 @@ class Edited:
         """The table that a call made, and the one that the reference makes: they are the same, the look shows the useful states, and writing gives the
         file, which reading turns into the table again. Returns whether it is so."""
         before, useful = table_file(self.table), self.useful
-        self.held, self.table, self.useful = held_by(call), made, generate.useful_states(made)
-        faults = [] if self.held == held_of(made) else ["not the table that the reference makes"]
+        self.lent, self.table, self.useful = call.lent.get("result", self.lent), made, generate.useful_states(made)
+        self.lent.keep()
+        faults = [] if self.held() == held_of(made) else ["not the table that the reference makes"]
         self.findings.check(f"library, {self.group}, the table after each call that is taken", faults, before, note)
         self.findings.count(f"library, {self.group}, the useful states after each call that is taken", "others" if useful != self.useful else "the same")
         note = f"{call.name}, {note}"
         return (not faults and self.look(self.useful, "look at each table that is made", note)
-                and written(self.library, self.findings, self.random, self.group, self.held, table_file(made), note))
+                and written(self.library, self.findings, self.random, self.group, self.lent, table_file(made), note))
 
     def look(self, useful, what, note):
         """The look at the table shows these states."""
-        return look_at(self.library, self.findings, self.random, f"{self.group}, {what}", self.held, useful, note)
+        return look_at(self.library, self.findings, self.random, f"{self.group}, {what}", self.lent, useful, note)
 
     def ask(self):
         """Verdict and translations of the edited table, as of any other."""
         for name, *words in (("verdict",), *(("translate", word) for word in generate.input_words(self.random, self.table))):
-            call = self.library.call(self.random, name, self.held, *words)
+            call = self.library.call(self.random, name, self.lent, *words)
             check(self.findings, f"{GROUP}, {name} of the edited table", call, as_note(words))
         self.findings.count(f"library, {GROUP}, lines of a table that is asked about", size_name(len(self.table.transitions)))
 
@@ -101,11 +107,11 @@ class Edited:
 
     def there_and_back(self, line):
         """A line appended and removed again, and the last line removed and appended again: each time the table that was, byte for byte."""
-        held, count = self.held, len(self.table.transitions)
+        held, count = self.held(), len(self.table.transitions)
         ways = [(("append", places_of(line)), ("remove", count))] if count < MAX_TRANSITIONS else []
         ways += [(("remove", count - 1), ("append", places_of(last))) for last in self.table.transitions[-1:]]
         for way in ways:
-            back = all(self.edit("there and back", *edit) for edit in way) and self.held == held
+            back = all(self.edit("there and back", *edit) for edit in way) and self.held() == held
             self.findings.check(f"library, {GROUP}, there and back", [] if back else ["another table"], held)
             if not back:
                 return
@@ -192,7 +198,7 @@ def compare_looks(library, findings):
             if not edited.edit("to look at", name, given):
                 break
             edited.look(after, what, f"{title}, {name}\n{as_note([given])}")
-            findings.check_apart(ITSELF, [] if edited.useful == set(after) else [f"other useful states: {edited.useful}"], edited.held, title)
+            findings.check_apart(ITSELF, [] if edited.useful == set(after) else [f"other useful states: {edited.useful}"], edited.held(), title)
 
 
 # --- known files -----------------------------------------------------------------------------------------------------

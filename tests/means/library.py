@@ -134,6 +134,14 @@ class Lent:
         """What the first places hold now."""
         return tuple((self.kind * count).from_buffer(self.memory, self.start))
 
+    def content(self):
+        """What a list of bytes holds now."""
+        return self.memory.raw[self.start:self.start + self.places]
+
+    def keep(self):
+        """What it holds now counts as what it held: it is lent to another call."""
+        self.held = self.memory.raw
+
     def holds(self, items):
         """Whether these items stand at the beginning, and everything else is as it was, the guard bytes included."""
         written = items if isinstance(items, bytes) else bytes((self.kind * len(items))(*items))
@@ -141,12 +149,14 @@ class Lent:
 
 
 class Call:
-    """One call: what is lent, and once it is made what it returned and when."""
+    """One call: what is lent, and once it is made what it returned and when. What has a content may be a list that is lent already."""
 
     def __init__(self, random, name, inputs, sizes):
         read, written = CALLS[name]
-        self.name, self.inputs, self.sizes = name, inputs, sizes
-        self.read = {lent: Lent(random, c_uint8, len(content), content) for lent, content in zip(read, inputs) if lent not in BY_VALUE}
+        self.name, self.sizes = name, sizes
+        self.inputs = tuple(given.content() if isinstance(given, Lent) else given for given in inputs)
+        self.read = {lent: given if isinstance(given, Lent) else Lent(random, c_uint8, len(given), given)
+                     for lent, given in zip(read, inputs) if lent not in BY_VALUE}
         self.lent = {lent: Lent(random, kind, sizes[lent]) for lent, kind, _ in written}
         self.returned = self.begun = self.ended = None
 

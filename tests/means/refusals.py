@@ -15,8 +15,6 @@ CONSTANTS = {
 }
 NAMED = "#define YOTSELINA_{} {}\n"  # each of them in the header, and its text
 TEXT = "    case YOTSELINA_{}:\n"
-OWN = 100  # of no document: the header has a name of its own for it, since it is said of held tables and lines, too
-OWN_NAME = "LIST_TOO_SHORT"
 LISTS = {
     MANUAL: r"^\| (\d+)(?:, record)? \| .* \| .* \|$",
     HEADER: r"^ \*     (\d+) +\S",
@@ -63,8 +61,7 @@ def check_numbers(findings):
     other = sorted({(in_definitions(name), number) for name, number in constants[CODE]} ^ set(constants[DEFINITIONS]))
     findings.check_apart(GROUP, [f"{name} = {number} stands in one only" for name, number in other], b"", f"{CODE} and {DEFINITIONS}")
     header = (ROOT / HEADER).read_text(encoding="utf-8")
-    names = [(OWN_NAME if number == OWN else name, number) for name, number in constants[CODE] if number != UNUSED]
-    missing = [name for name, number in names if NAMED.format(name, number) not in header or TEXT.format(name) not in header]
+    missing = [name for name, number in constants[CODE] if NAMED.format(name, number) not in header or TEXT.format(name) not in header]
     findings.check_apart(GROUP, [f"no constant or no text: {missing}"] if missing else [], b"", f"{CODE} and {HEADER}")
     places = {place: [number for _, number in named] for place, named in constants.items()}
     places |= {place: [int(number) for number in found(place, pattern)] for place, pattern in LISTS.items()}

@@ -59,7 +59,7 @@ class Made(Edited):
 
     def join(self, what, pair):
         """The table joined with another that stands before it or behind it: like an edit."""
-        call = self.library.call(self.random, "join", *(self.held if one is self.table else held_of(one) for one in pair))
+        call = self.library.call(self.random, "join", *(self.lent if one is self.table else held_of(one) for one in pair))
         note = f"{what}\nthe second file:\n{table_file(pair[1]).decode()}"
         self.findings.count(f"library, {self.group}, join", f"{what}, {'refused' if call.returned else 'taken'}")
         if not check(self.findings, f"{self.group}, join", call, note):
@@ -75,10 +75,10 @@ class Made(Edited):
             done = self.join("another before it", series.put_before(self.random, self.table))
         else:
             done = self.edit(*lines.any_edit(self.random, self.table, growing))
-        calls = [self.library.call(self.random, name, self.held) for name in ("look", "useful_states")]
+        calls = [self.library.call(self.random, name, self.lent) for name in ("look", "useful_states")]
         shown, found = ((call.returned, call.lent["flags"].items(MAX_STATES)) for call in calls)
         faults = [] if shown == found else [f"the look shows {shown}, yotselina_useful_states {found}"]
-        self.findings.check(f"library, {self.group}, look and useful_states show the same", faults, self.held)
+        self.findings.check(f"library, {self.group}, look and useful_states show the same", faults, self.held())
         return done and not faults
 
 
