@@ -6,7 +6,7 @@ use Prim.Native.Nat.{ℕ, _+_, _≤_, _<_}
 use native.Mathlib.Decide.{decLt, ℕ-discrete}
 use native.Mathlib.Omega.{arith}
 use Rattle.transducer.specs.Limits.{mostStates}
-use Rattle.product.specs.Machine.{headOf, keyOf, nextOf, Leaves, Follows, Along, Machine}
+use Rattle.product.specs.Machine.{countOf, headOf, fromOf, keyOf, nextOf, Leaves, Follows, Along, Machine}
 use Rattle.product.specs.Numbers.{noTransition}
 use Rattle.product.specs.Steps.{Keyed, pastLast, Least}
 
@@ -24,6 +24,14 @@ module _ {m : List ℕ} (machine : Machine m) where
 
   pub along-next : {q l r : ℕ} → Along m q l → l < noTransition → r ≡ nextOf m l → Along m q r
   along-next a h e = let f = next-follows a h e in record { most = f .most; leaves = f .leaves }
+
+  -- the next is the one behind, where that leaves the same state
+  pub next-behind : {l : ℕ} → l < countOf m → Leaves m (l + 1) (fromOf m l) → nextOf m l ≡ l + 1
+  next-behind {l} h x = go (decLt (l + 1) (nextOf m l))
+    where
+      go : Dec (l + 1 < nextOf m l) → nextOf m l ≡ l + 1
+      go (yes b) = absurd (machine .nexts l h .least (l + 1) (omega arith) b x)
+      go (no b) = let f = machine .nexts l h in omega (arith, f .above)
 
   -- a search along the transitions that leave q for one that has the key: none before l has it
   pub record Seeking (q key low l : ℕ) : Type 0 where

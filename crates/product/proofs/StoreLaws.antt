@@ -68,40 +68,40 @@ module _ (m : List ℕ) (a b c d e v w x y z : ℕ) where
 
 -- where the places of transition l begin
 abbrev pub place : ℕ → ℕ
-place l = 1 + mostStates + l * 4
+place l = 2 + mostStates + l * 4
 
 -- the list after the stores of one transition
 abbrev pub putOf : List ℕ → ℕ → ℕ → ℕ → ℕ → List ℕ
 putOf m l from to key =
-    set (set (set (set (set m (place l) from) (place l + 1) to) (place l + 2) key) (place l + 3) (getD m (1 + from) 0)) (1 + from) l
+    set (set (set (set (set m (place l) from) (place l + 1) to) (place l + 2) key) (place l + 3) (getD m (2 + from) 0)) (2 + from) l
 
 module _ (m : List ℕ) (l from to key : ℕ) (long : length m ≡ mostPlaces) (low : l < mostTransitions) (state : from < mostStates) where
-  here : (k : ℕ) → k ≢ place l → k ≢ place l + 1 → k ≢ place l + 2 → k ≢ place l + 3 → k ≢ 1 + from
+  here : (k : ℕ) → k ≢ place l → k ≢ place l + 1 → k ≢ place l + 2 → k ≢ place l + 3 → k ≢ 2 + from
       → getD (putOf m l from to key) k 0 ≡ getD m k 0
-  here = apart m (place l) (place l + 1) (place l + 2) (place l + 3) (1 + from) from to key (getD m (1 + from) 0) l
+  here = apart m (place l) (place l + 1) (place l + 2) (place l + 3) (2 + from) from to key (getD m (2 + from) 0) l
 
   -- transition l is put before those of its state
   pub put-stores : Put m (putOf m l from to key) l from to key
   unfolding countOf headOf fromOf toOf keyOf nextOf
   put-stores =
       record {
-        long = five-long m (place l) (place l + 1) (place l + 2) (place l + 3) (1 + from) from to key (getD m (1 + from) 0) l ∙ long;
+        long = five-long m (place l) (place l + 1) (place l + 2) (place l + 3) (2 + from) from to key (getD m (2 + from) 0) l ∙ long;
         count = here 0 (λ z. omega arith) (λ z. omega arith) (λ z. omega arith) (λ z. omega arith) (λ z. omega arith);
         from-here =
-            at-a m (place l) (place l + 1) (place l + 2) (place l + 3) (1 + from) from to key (getD m (1 + from) 0) l (omega arith)
+            at-a m (place l) (place l + 1) (place l + 2) (place l + 3) (2 + from) from to key (getD m (2 + from) 0) l (omega arith)
             (λ z. omega arith) (λ z. omega arith) (λ z. omega arith) (λ z. omega arith);
         to-here =
-            at-b m (place l) (place l + 1) (place l + 2) (place l + 3) (1 + from) from to key (getD m (1 + from) 0) l (omega arith)
+            at-b m (place l) (place l + 1) (place l + 2) (place l + 3) (2 + from) from to key (getD m (2 + from) 0) l (omega arith)
             (λ z. omega arith) (λ z. omega arith) (λ z. omega arith);
         key-here =
-            at-c m (place l) (place l + 1) (place l + 2) (place l + 3) (1 + from) from to key (getD m (1 + from) 0) l (omega arith)
+            at-c m (place l) (place l + 1) (place l + 2) (place l + 3) (2 + from) from to key (getD m (2 + from) 0) l (omega arith)
             (λ z. omega arith) (λ z. omega arith);
         next-here =
-            at-d m (place l) (place l + 1) (place l + 2) (place l + 3) (1 + from) from to key (getD m (1 + from) 0) l (omega arith)
+            at-d m (place l) (place l + 1) (place l + 2) (place l + 3) (2 + from) from to key (getD m (2 + from) 0) l (omega arith)
             (λ z. omega arith);
-        head-here = at-e m (place l) (place l + 1) (place l + 2) (place l + 3) (1 + from) from to key (getD m (1 + from) 0) l (omega arith);
+        head-here = at-e m (place l) (place l + 1) (place l + 2) (place l + 3) (2 + from) from to key (getD m (2 + from) 0) l (omega arith);
         heads = λ q h n.
-            here (1 + q) (λ z. omega arith) (λ z. omega arith) (λ z. omega arith) (λ z. omega arith) (λ z. n (omega arith));
+            here (2 + q) (λ z. omega arith) (λ z. omega arith) (λ z. omega arith) (λ z. omega arith) (λ z. n (omega arith));
         froms = λ k n.
             here (place k) (λ z. n (omega arith)) (λ z. omega arith) (λ z. omega arith) (λ z. omega arith) (λ z. omega arith);
         tos = λ k n.
