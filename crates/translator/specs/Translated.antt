@@ -25,11 +25,6 @@ module _ (t : Transducer) (input out₀ out : List ℕ) (r : Translation) where
     -- the output y of an accepting path that reads the word is longer than the buffer; with 65,528 places none is
     short : {y : OutputWord} → Relates t (wordOf input) y → length y ≤ mostWritten → length out₀ < length y → numberOf r ≡ refusal.tooShort → Outcome
 
-  -- that answer, and that a refusal changes no place of the buffer
-  pub record Answers : Type 0 where
-    pub outcome : Outcome
-    pub unchanged : numberOf r ≢ 0 → out ≡ out₀
-
   -- from the transducer t, the input word's bytes and a buffer that holds out₀ the answer is r, and the buffer is left with out
   pub record Translated : Type 0 where
     -- what is refused before any search is given where the definition says so

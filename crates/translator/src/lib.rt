@@ -13,14 +13,14 @@ ghost use Rattle.wordsearch.specs.Limits.{mostWord};
 ghost use Rattle.wordsearch.specs.Nodes.{Room};
 ghost use Rattle.wordsearch.specs.Answers.{written, Traced};
 ghost use Rattle.translator.specs.Numbers.{numberOf, lengthOf};
-ghost use Rattle.translator.specs.Words.{shortWord};
-ghost use Rattle.translator.specs.Translated.{Answers, Translated};
+ghost use Rattle.translator.specs.Parts.{shortWord, Answers};
+ghost use Rattle.translator.specs.Translated.{Translated};
 use transducer::Transducer;
 use transducer::codes;
 use transducer::refusals;
 use wordsearch::limits;
 
-// A word of fewer codes is searched for in shorter lists, so that less has to be cleared; specs/Words.antt has the same number.
+// A word of fewer codes is searched for in shorter lists, so that less has to be cleared; specs/Parts.antt has the same number.
 const SHORT: usize = 32;
 
 // The nodes of such a word.

@@ -4,7 +4,7 @@ use Prim.Native.Nat.{_*_}
 use native.Mathlib.Omega.{arith}
 use borrow.Author.Needs.{needs}
 use Rattle.transducer.specs.Limits.{mostStates}
-use Rattle.translator.specs.Words.{shortWord}
+use Rattle.translator.specs.Parts.{shortWord}
 use Rattle.translator.proofs.FreshLists.{fresh}
 use Rattle.translator.proofs.short.Statement.{statement}
 use Rattle.translator.proofs.short.Tie as tie
