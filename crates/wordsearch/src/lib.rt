@@ -136,7 +136,7 @@ fn expand(
         if next < NOWHERE {
             n = worklist::visit(order, rank, parent, via, n, next, head + 1, l as u32);
         }
-        l = machine::next(m, l);
+        l = machine::next_along(m, l);
     }
     n
 }

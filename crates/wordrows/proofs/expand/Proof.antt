@@ -63,7 +63,7 @@ follow-requires c κs =
     (ready-then (p .0) x, (e .used, still e (x .grows .kept _ _ (p .1))))
 
 next-requires : tie.Need-next-requires Inv-loop μ-loop
-next-requires c κs = let t = turn (followed c) in (start (t .before) .pre .0 .lent .machine, taken t .used)
+next-requires c κs = let t = turn (followed c) in (start (t .before) .pre .0 .lent .machine .long, t .loop-test .taken)
 
 -- the transition after l
 follows : (c : tie.After-next2 Inv-loop μ-loop) → let t = turn (followed (c .before)) in let a = start (t .before) .args in

@@ -1,6 +1,7 @@
 -- `row_after` meets its contract. Assumes nothing.
 use native.Mathlib.Omega.{arith}
 use Rattle.product.proofs.IndexLaws.{row-next, row-end}
+use borrow.Author.Needs.{needs}
 use Rattle.product.proofs.steps.row_after.Statement.{statement}
 use Rattle.product.proofs.steps.row_after.Tie as tie
 
@@ -8,7 +9,7 @@ returns : tie.Need-returns
 returns c = row-end (c .before .before .pre .0) (c .if1 .taken)
 
 next-requires : tie.Need-next-requires
-next-requires c κs = let a = c .before .before .pre in (a .0, a .1 .leaves (omega (arith, a .1 .most, c .if1 .left)) .used)
+next-requires c κs = search needs
 
 returns-2 : tie.Need-returns-2
 returns-2 c =
