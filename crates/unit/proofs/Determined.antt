@@ -1,21 +1,14 @@
 -- The same call, twice, with the same lists: what is returned and left is the same, but for what document 01 leaves open. Assumes nothing.
 use mathlib.Core.Path.{_≡_, refl, sym, ap, _∙_}
-use mathlib.Core.Bool.{Bool, true, false}
-use mathlib.Core.List.{List, [], _∷_, map}
-use mathlib.Core.Logic.{_≢_, _↔_}
-use Prim.Native.Nat.{ℕ, _≤_}
-use native.Mathlib.Decide.{ℕ-discrete}
-use native.Mathlib.Omega.{arith}
-use lib.ListN.{length, getD, take}
-use lib.Seq.{ext-getD}
+use mathlib.Core.Bool.{Bool}
+use mathlib.Core.List.{List, [], _∷_}
+use mathlib.Core.Logic.{_≢_}
+use Prim.Native.Nat.{ℕ}
+use lib.ListN.{getD, take}
 use Rattle.buffers.specs.Put.{put}
 use Rattle.transducer.specs.Paths.{Functional}
-use Rattle.transducer.specs.Accepted.{acceptedOf}
-use Rattle.transducer.specs.StateSet.{has, In}
-use Rattle.transducer.specs.declared.StateSet.{StateSet}
 use Rattle.transducer.specs.declared.Transducer.{Transducer}
 use Rattle.transducer.proofs.Bools.{same-flag}
-use Rattle.held.specs.Held.{tableIn}
 use Rattle.witness.specs.Showing.{Buffers}
 use Rattle.functionality.specs.Decided as decision
 use Rattle.functionality.specs.Decided.{verdictOf, Agree}

@@ -10,7 +10,6 @@ use lib.ListN.{length, getD, take, drop}
 use lib.Seq.{drop-append-seam}
 use Rattle.buffers.specs.Put.{put}
 use Rattle.buffers.proofs.PutLaws.{front-put, put-length}
-use Rattle.records.specs.Letters.{mostFields}
 use Rattle.transducer.specs.Refusals.{listTooShort}
 use Rattle.transducer.specs.Valid.{Shaped}
 use Rattle.transducer.specs.Accepted.{acceptedOf}
@@ -25,7 +24,6 @@ use Rattle.tablereader.proofs.ReadLaws.{read-shaped}
 use Rattle.tablereader.proofs.Validity.{read-accepted}
 use Rattle.tablewriter.specs.File.{writeOf}
 use Rattle.tablewriter.specs.Writing as file
-use Rattle.tablewriter.specs.Writing.{Wrote}
 use Rattle.tablewriter.proofs.WroteLaws.{wrote-accepted}
 use Rattle.tablefile.specs.RoundTrips.{takenAs}
 use Rattle.tablefile.proofs.RoundTrips.{round-trips}
@@ -51,8 +49,8 @@ use Rattle.filelaws.specs.Rack.{EditedFrom}
 use Rattle.filelaws.specs.Series.{FileInSeries}
 use Rattle.filelaws.proofs.RackLaws.{edited-from}
 use Rattle.filelaws.proofs.JoinedFiles.{files-in-series}
-use Rattle.answers.specs.Answers.{fileCode, HeldIn, Flagged, writeAnswer}
-use Rattle.unit.specs.Calls.{Call, Holding, ReadGiven, Writes, WriteGiven, LookGiven, StatesGiven, FindsStates, AppendGiven, RemoveGiven, JoinGiven, Joins, Edits}
+use Rattle.answers.specs.Answers.{Flagged, writeAnswer}
+use Rattle.unit.specs.Calls.{Call, Holding, ReadGiven, Writes, WriteGiven, LookGiven, StatesGiven, FindsStates, JoinGiven, Joins, Edits}
 use Rattle.unit.specs.Laws as laws
 use Rattle.unit.specs.Laws.{MadeIn, EditCalls, EditsInPlace, madeOf, SeriesOf}
 use Rattle.unit.proofs.CallLaws.{OrNot, holding, lent, line-lent, three-holding, done-lent, done, answered, twice, either, front}

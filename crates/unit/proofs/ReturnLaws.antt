@@ -4,7 +4,7 @@ use mathlib.Core.Path.{_≡_, refl, sym, _∙_}
 use mathlib.Core.Bool.{Bool, true, false, true≢false, cond, _&&_}
 use mathlib.Core.List.{List, [], _∷_}
 use mathlib.Core.Logic.{_≢_, _↔_}
-use Prim.Native.Nat.{ℕ, _+_, _*_, _≤_, _<_, _/_, _%_}
+use Prim.Native.Nat.{ℕ, _≤_, _<_, _/_, _%_}
 use native.Mathlib.Decide.{ℕ-discrete}
 use native.Mathlib.Omega.{arith}
 use lib.Dec.{leb, ltb}
@@ -22,13 +22,11 @@ use Rattle.tablereader.specs.Reader.{readOf}
 use Rattle.tablereader.proofs.Outcomes.{taken-record, number-low}
 use Rattle.tablereader.proofs.ReadLaws.{read-record}
 use Rattle.tablewriter.specs.File.{writeOf}
-use Rattle.tablewriter.specs.Writing as file
 use Rattle.tablewriter.specs.Writing.{inCase}
 use Rattle.wordsearch.specs.Limits.{mostWord}
 use Rattle.translator.specs.Numbers as answer
 use Rattle.translator.specs.Words as translated
 use Rattle.translator.specs.Translated.{Outcome, Translated}
-use Rattle.translator.specs.declared.Translation.{Translation}
 use Rattle.wordtest.specs.Words as word
 use Rattle.functionality.specs.Decided as decision
 use Rattle.functionality.specs.Decided.{fullOf}
@@ -43,8 +41,8 @@ use Rattle.held.specs.Held.{tableIn}
 use Rattle.engine.specs.Engine.{numberOf, recordOf, Taken}
 use Rattle.answers.specs.Answers.{refusalCode, fileCode, roomFault, Flagged}
 use Rattle.answers.specs.Answers.{verdictAnswer, translateAnswer, acceptsAnswer, pairsAnswer, differenceAnswer, writeAnswer}
-use Rattle.unit.specs.Calls.{Holding, ReadGiven, Writes, Decides, Translates, Tests, FindsStates, FindsPairs, Edits, Joins}
-use Rattle.unit.specs.Calls.{JoinGiven, LookGiven, DifferenceGiven}
+use Rattle.unit.specs.Calls.{Writes, Decides, Translates, Tests, FindsStates, FindsPairs, Edits, Joins}
+use Rattle.unit.specs.Calls.{JoinGiven}
 use Rattle.unit.specs.Laws as laws
 use Rattle.unit.specs.Laws.{Asked, Returned}
 use Rattle.unit.proofs.CallLaws.{holding, lent, line-lent, answer-lent, three-holding, call-has, answered, first-has, first-none}

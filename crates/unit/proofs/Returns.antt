@@ -47,7 +47,7 @@ use Rattle.series.specs.Join as join
 use Rattle.series.specs.Join.{JoinedOf}
 use Rattle.series.specs.declared.Joined.{Joined}
 use Rattle.series.proofs.SeriesLaws.{joined-shaped}
-use Rattle.answers.specs.Answers.{refusalCode, fileCode, flagOf, kindOf, numbersOf, Given, Flagged, HeldIn}
+use Rattle.answers.specs.Answers.{refusalCode, fileCode, kindOf, numbersOf, Given, Flagged, HeldIn}
 use Rattle.answers.specs.Answers.{verdictAnswer, translateAnswer, acceptsAnswer, pairsAnswer, differenceAnswer, writeAnswer}
 use Rattle.answers.proofs.Flags.{flag-byte}
 use Rattle.unit.specs.Calls.{Call, Holding, Lent, ReadGiven, WriteGiven, VerdictGiven, TranslationGiven, AcceptsGiven, StatesGiven, LookGiven}

@@ -2,7 +2,6 @@
 use mathlib.Core.Path.{_≡_, refl, sym, ap, _∙_}
 use mathlib.Core.Bool.{true, cond}
 use mathlib.Core.List.{List, [], _∷_, List·Memᴰ, List·Memᴰ·head, List·Memᴰ·tail, append-nil}
-use mathlib.Core.Logic.{_≢_}
 use Prim.Native.Nat.{ℕ, _≤_}
 use native.Mathlib.Omega.{arith}
 use borrow.Author.Tests.{eq-eqb, ne-eqb}
@@ -21,7 +20,6 @@ use Rattle.held.proofs.BytesLaws.{held-shaped}
 use Rattle.edits.specs.Edits as edit
 use Rattle.edits.specs.Edits.{Edit, Whole, with-line, with-number}
 use Rattle.edits.proofs.MadeLaws.{Answered, call-there}
-use Rattle.edits.proofs.RowLaws.{one-accepted}
 use Rattle.engine.specs.Engine.{Taken, tableOf}
 use Rattle.unit.specs.Calls.{Holding, ReadGiven, Edits}
 use Rattle.unit.specs.Laws as laws
