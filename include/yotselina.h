@@ -185,7 +185,7 @@
 #define YOTSELINA_CLASH 3
 
 /* Bytes of stack that are enough for any call; what each takes stands with it (rounded up from what the archive's code reserves). */
-#define YOTSELINA_STACK 163840
+#define YOTSELINA_STACK 155648
 
 /* What is returned must be looked at: the compiler says so where it can. */
 #if (defined(__cplusplus) && __cplusplus >= 201703L) || (defined(__STDC_VERSION__) && __STDC_VERSION__ >= 202311L)
@@ -243,7 +243,7 @@ YOTSELINA_CALL yotselina_read(const uint8_t *file, size_t file_length, uint8_t *
  * Reading the file gives the held table back, byte for byte.
  *
  * Refusals: 100; 8; 7 if the file does not fit, never with YOTSELINA_FILE places.
- * Stack: 32,768 bytes.
+ * Stack: 24,576 bytes.
  */
 YOTSELINA_CALL yotselina_write(const uint8_t *table, size_t table_length,
                                uint8_t *out, size_t out_length,
@@ -270,7 +270,7 @@ YOTSELINA_CALL yotselina_write(const uint8_t *table, size_t table_length,
  * each any number of times) get the same verdict and the same u.
  *
  * Refusals: 100; 8; 7 if any of the five lists is below its size, whatever the verdict would be.
- * Stack: 131,072 bytes.
+ * Stack: 122,880 bytes.
  */
 YOTSELINA_CALL yotselina_verdict(const uint8_t *table, size_t table_length,
                                  uint8_t *word, size_t word_length,
@@ -294,7 +294,7 @@ YOTSELINA_CALL yotselina_verdict(const uint8_t *table, size_t table_length,
  * same refusal for every word, with YOTSELINA_OUTPUT places each.
  *
  * Refusals: 100; 8; 9, 10, 11; 7 if the output does not fit, never with YOTSELINA_OUTPUT places.
- * Stack: 163,840 bytes.
+ * Stack: 155,648 bytes.
  */
 YOTSELINA_CALL yotselina_translate(const uint8_t *table, size_t table_length,
                                    const uint8_t *input, size_t input_length,
@@ -329,7 +329,7 @@ YOTSELINA_CALL yotselina_accepts(const uint8_t *table, size_t table_length,
  *   flags               at least YOTSELINA_STATES places: flag q is 1 if state q is useful, else 0 (also where the table has no state q)
  *
  * Refusals: 100; 8; 7 if flags has fewer than YOTSELINA_STATES places.
- * Stack: 32,768 bytes.
+ * Stack: 16,384 bytes.
  */
 YOTSELINA_CALL yotselina_useful_states(const uint8_t *table, size_t table_length, uint8_t *flags, size_t flags_length);
 
@@ -358,7 +358,7 @@ YOTSELINA_CALL yotselina_look(const uint8_t *table, size_t table_length, uint8_t
  * Order counts: (p, q) and (q, p) are two pairs. p may equal q.
  *
  * Refusals: 100; 8; 7 if flags has fewer than YOTSELINA_PAIRS places.
- * Stack: 65,536 bytes.
+ * Stack: 57,344 bytes.
  */
 YOTSELINA_CALL yotselina_useful_pairs(const uint8_t *table, size_t table_length,
                                       uint8_t *flags, size_t flags_length,
@@ -378,7 +378,7 @@ YOTSELINA_CALL yotselina_useful_pairs(const uint8_t *table, size_t table_length,
  * was. A line that the table has already is taken, and stands in it once more.
  *
  * Refusals: 100; 8; 19; 17.
- * Stack: 32,768 bytes.
+ * Stack: 24,576 bytes.
  */
 YOTSELINA_CALL yotselina_append(uint8_t *table, size_t table_length, const uint8_t *line, size_t line_length);
 
@@ -392,7 +392,7 @@ YOTSELINA_CALL yotselina_append(uint8_t *table, size_t table_length, const uint8
  * lines after it move down one: line number + 1 becomes line number.
  *
  * Refusals: 100; 8; 18 for any number from the count of lines on.
- * Stack: 32,768 bytes.
+ * Stack: 24,576 bytes.
  */
 YOTSELINA_CALL yotselina_remove(uint8_t *table, size_t table_length, size_t number);
 
@@ -414,7 +414,7 @@ YOTSELINA_CALL yotselina_remove(uint8_t *table, size_t table_length, size_t numb
  * nothing else.
  *
  * Refusals: 100; 8 for either table; 15, 16, 17.
- * Stack: 81,920 bytes.
+ * Stack: 65,536 bytes.
  */
 YOTSELINA_CALL yotselina_join(const uint8_t *first, size_t first_length,
                               const uint8_t *second, size_t second_length,
