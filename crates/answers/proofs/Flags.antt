@@ -2,7 +2,7 @@
 use mathlib.Core.Path.{_≡_, refl}
 use mathlib.Core.Bool.{Bool, true, false}
 use mir.Val.{boolByte}
-use Rattle.answers.specs.Answers.{flagOf}
+use Rattle.held.specs.Held.{flagOf}
 
 pub flag-byte : (b : Bool) → flagOf b ≡ boolByte b
 flag-byte true = refl

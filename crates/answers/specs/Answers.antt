@@ -1,6 +1,6 @@
 -- The numbers that an exported function returns, and what it puts into the lists that are lent.
 use mathlib.Core.Path.{_≡_}
-use mathlib.Core.Bool.{Bool, true, false, cond}
+use mathlib.Core.Bool.{Bool, cond}
 use mathlib.Core.List.{List, [], _∷_, map}
 use mathlib.Core.Logic.{_≢_}
 use Prim.Native.Nat.{ℕ, _+_, _*_}
@@ -14,7 +14,7 @@ use Rattle.words.specs.declared.Comparison.the-variants.{Level, FirstAhead, Sec
 use Rattle.functionality.specs.Decided.{verdictOf}
 use Rattle.functionality.specs.declared.Verdict.{Verdict}
 use Rattle.engine.specs.Engine.{numberOf, recordOf}
-use Rattle.held.specs.Held.{heldOf}
+use Rattle.held.specs.Held.{flagOf, heldOf}
 
 -- ---- refusals
 
@@ -57,11 +57,6 @@ abbrev pub writeAnswer : ℕ
 writeAnswer = 1
 
 -- ---- what is put into lists
-
--- a flag: 1 where it is true
-abbrev pub flagOf : Bool → ℕ
-flagOf true = 1
-flagOf false = 0
 
 -- how two words compare
 abbrev pub kindOf : Comparison → ℕ

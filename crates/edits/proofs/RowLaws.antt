@@ -85,9 +85,6 @@ module _ {t : Transducer} {e : Edit} {r : Edited} (accepted : acceptedOf t ≡ t
   pub one-handed : r .table ≡ cond (eqb refusal 0) (editOf t e) t
   one-handed = h .table ∙ ap (λ n. cond (eqb n 0) (editOf t e) t) same-refusal
 
-  pub one-done : refusal ≡ 0 → r .table ≡ editOf t e
-  one-done z = one-handed ∙ rw (eq-eqb refusal 0 z) refl
-
   -- and hands over what that makes
   one-table : Shaped t → r .table ≡ transducerOf (t .states) (t .starts) (t .finals) (afterEdit (t .states) (linesOf t) e)
   unfolding editOf afterEdit

@@ -1,12 +1,10 @@
 -- A call in its two cases: some list is too short, or none is. Assumes nothing.
 use mathlib.Core.Path.{_≡_, refl, sym, _∙_}
-use mathlib.Core.Bool.{Bool, true, false, cond}
 use mathlib.Core.List.{List, [], _∷_}
 use mathlib.Core.Logic.{_≢_, _⊎_, inl, inr}
 use Prim.Native.Nat.{ℕ, _≤_, _<_}
 use native.Mathlib.Decide.{ℕ-discrete}
 use native.Mathlib.Omega.{arith}
-use lib.Dec.{eqb}
 use lib.ListN.{length, getD}
 use Rattle.buffers.specs.Put.{put}
 use Rattle.transducer.specs.Refusals.{listTooShort, firstOf}
@@ -105,15 +103,6 @@ either r {A} done refused = go (ℕ-discrete r 0)
 pub same-left : {A : Type 0} {r₁ r₂ : ℕ} {l l₁ l₂ : A} → r₁ ≡ r₂ → (r₁ ≡ 0 → r₂ ≡ 0 → l₁ ≡ l₂) → (r₁ ≢ 0 → l₁ ≡ l) → (r₂ ≢ 0 → l₂ ≡ l) → l₁ ≡ l₂
 same-left {r₁ = r₁} same done one other =
     either r₁ (λ z. done z (sym same ∙ z)) (λ n. one n ∙ sym (other (λ z. n (same ∙ z))))
-
--- what holds of a fault and of the others holds of the first
-pub first-has : (P : ℕ → Type 0) (fault : ℕ) (faults : List ℕ) → P fault → P (firstOf faults) → P (firstOf (fault ∷ faults))
-unfolding firstOf
-first-has P fault faults this others = go (eqb fault 0)
-  where
-    go : (x : Bool) → P (cond x (firstOf faults) fault)
-    go true = others
-    go false = this
 
 -- where there is no fault
 pub first-none : (P : ℕ → Type 0) → P 0 → P (firstOf [])

@@ -26,8 +26,9 @@ use Rattle.edits.specs.Edits.{Edit}
 use Rattle.series.specs.Join as join
 use Rattle.series.specs.declared.Joined.{Joined}
 use Rattle.series.proofs.SeriesLaws.{joined-determined}
-use Rattle.answers.specs.Answers.{flagOf, numbersOf, Given, Flagged, HeldIn}
+use Rattle.answers.specs.Answers.{numbersOf, Given, Flagged, HeldIn}
 use Rattle.answers.specs.Answers.{verdictAnswer, translateAnswer, acceptsAnswer, pairsAnswer, differenceAnswer, writeAnswer}
+use Rattle.held.specs.Held.{flagOf}
 use Rattle.unit.specs.Calls.{Writes, Decides, Translates, Tests, FindsStates, FindsPairs, Edits, Joins}
 use Rattle.unit.specs.Calls.{VerdictGiven}
 use Rattle.unit.specs.Laws.{SameVerdict, Determined}

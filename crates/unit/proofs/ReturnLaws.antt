@@ -18,6 +18,7 @@ use Rattle.transducer.specs.Accepted.{acceptedOf}
 use Rattle.transducer.specs.Lines.{linesOf}
 use Rattle.transducer.specs.declared.Transducer.{Transducer}
 use Rattle.transducer.proofs.Bools.{and-left, and-right}
+use Rattle.transducer.proofs.RefusalLaws.{first-has}
 use Rattle.tablereader.specs.Reader.{readOf}
 use Rattle.tablereader.proofs.Outcomes.{taken-record, number-low}
 use Rattle.tablereader.proofs.ReadLaws.{read-record}
@@ -45,7 +46,7 @@ use Rattle.unit.specs.Calls.{Writes, Decides, Translates, Tests, FindsSt
 use Rattle.unit.specs.Calls.{JoinGiven}
 use Rattle.unit.specs.Laws as laws
 use Rattle.unit.specs.Laws.{Asked, Returned}
-use Rattle.unit.proofs.CallLaws.{holding, lent, line-lent, answer-lent, three-holding, call-has, answered, first-has, first-none}
+use Rattle.unit.proofs.CallLaws.{holding, lent, line-lent, answer-lent, three-holding, call-has, answered, first-none}
 
 -- ---- a file's refusal
 

@@ -13,7 +13,7 @@ use Rattle.transducer.specs.Paths.{Functional}
 use Rattle.transducer.specs.Accepted.{acceptedOf}
 use Rattle.transducer.specs.Alike.{Alike}
 use Rattle.transducer.specs.declared.Transducer.{Transducer}
-use Rattle.held.specs.Held.{tableIn}
+use Rattle.held.specs.Held.{flagOf, tableIn}
 use Rattle.wordsearch.specs.Limits.{mostWritten}
 use Rattle.translator.specs.Numbers as answer
 use Rattle.wordtest.specs.Agreement.{Gives}
@@ -26,7 +26,7 @@ use Rattle.functionality.specs.declared.Outcome.{Outcome}
 use Rattle.engine.specs.Engine.{judgementOf, fileTranslationOf}
 use Rattle.engine.specs.Demand3.{value, JudgedInFull, TranslatedInFull}
 use Rattle.engine.proofs.Demand3.{demand-3, served-same}
-use Rattle.answers.specs.Answers.{flagOf, verdictAnswer, translateAnswer, acceptsAnswer}
+use Rattle.answers.specs.Answers.{verdictAnswer, translateAnswer, acceptsAnswer}
 use Rattle.unit.specs.Calls.{Decides, VerdictGiven, Translates, TranslationGiven, Tests, AcceptsGiven, JoinGiven}
 use Rattle.unit.specs.Laws.{OutputGiven, SameTranslation}
 use Rattle.unit.proofs.CallLaws.{lent, done, answered, front}

@@ -13,7 +13,7 @@ use Rattle.tablereader.specs.Transitions.{transitionOf}
 use Rattle.tablewriter.specs.Writing as file
 use Rattle.tablewriter.specs.Writing.{Wrote}
 use Rattle.tablewriter.specs.declared.Writing.{Writing}
-use Rattle.held.specs.Held.{heldSize, tableIn}
+use Rattle.held.specs.Held.{flagOf, heldSize, tableIn}
 use Rattle.useful.specs.UsefulStates as states
 use Rattle.useful.specs.UsefulStates.{UsefulStatesOf}
 use Rattle.useful.specs.declared.UsefulStates.{UsefulStates}
@@ -37,7 +37,7 @@ use Rattle.edits.specs.declared.Edited.{Edited}
 use Rattle.series.specs.Join as join
 use Rattle.series.specs.Join.{JoinedOf}
 use Rattle.series.specs.declared.Joined.{Joined}
-use Rattle.answers.specs.Answers.{fileCode, flagOf, kindOf, numbersOf, Given, Flagged, HeldIn}
+use Rattle.answers.specs.Answers.{fileCode, kindOf, numbersOf, Given, Flagged, HeldIn}
 use Rattle.answers.specs.Answers.{verdictAnswer, translateAnswer, acceptsAnswer, pairsAnswer, differenceAnswer, writeAnswer}
 
 -- the version of the calls, of their answers and of held tables: 1.0, the first number in the upper 16 bits

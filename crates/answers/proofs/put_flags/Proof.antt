@@ -8,7 +8,7 @@ use borrow.Author.Needs.{needs}
 use lib.ListN.{length, getD, length-map}
 use Rattle.buffers.proofs.PutsLaws.{puts-one}
 use Rattle.buffers.proofs.Parts.{Parts, parts-none, parts-length, part-room, part-next, parts-all, below-each}
-use Rattle.answers.specs.Answers.{flagOf}
+use Rattle.held.specs.Held.{flagOf}
 use Rattle.answers.proofs.Flags.{flag-byte}
 use Rattle.answers.proofs.put_flags.Statement.{statement}
 use Rattle.answers.proofs.put_flags.Tie as tie
