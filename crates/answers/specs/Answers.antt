@@ -32,9 +32,9 @@ roomFault n list = cond (ltb (length list) n) tooShort 0
 
 -- ---- how many numbers an answer list takes
 
--- of a verdict: split, u and five counts
+-- of a verdict: split, u, five counts, and how many codes the two outputs have in common
 abbrev pub verdictAnswer : ℕ
-verdictAnswer = 7
+verdictAnswer = 8
 
 -- of a translation: a length
 abbrev pub translateAnswer : ℕ
@@ -48,7 +48,7 @@ acceptsAnswer = 1
 abbrev pub pairsAnswer : ℕ
 pairsAnswer = 1
 
--- of a difference: its kind and a length
+-- of a difference: its kind, and the number that a clash carries
 abbrev pub differenceAnswer : ℕ
 differenceAnswer = 2
 
@@ -63,12 +63,13 @@ abbrev pub kindOf : Comparison → ℕ
 kindOf Level = 0
 kindOf FirstAhead = 1
 kindOf SecondAhead = 2
-kindOf Clash = 3
+kindOf (Clash n) = 3
 
--- a verdict: split, u, and how many items stand in each buffer
+-- a verdict: split, u, how many items stand in each buffer, and how many codes the two outputs have in common at the beginning
 unfoldable pub numbersOf : Verdict → List ℕ
 numbersOf r =
-    verdictOf (r .outcome) ∷ r .useful ∷ r .counts .word ∷ r .counts .«path_a» ∷ r .counts .«path_b» ∷ r .counts .«output_x» ∷ r .counts .«output_y» ∷ []
+    verdictOf (r .outcome) ∷ r .useful ∷ r .counts .word ∷ r .counts .«path_a» ∷ r .counts .«path_b» ∷ r .counts .«output_x» ∷ r .counts .«output_y»
+    ∷ r .counts .shared ∷ []
 
 -- ---- how a call ends: it returns its refusal and leaves the list, or returns 0
 

@@ -16,15 +16,15 @@ use transducer::Transducer;
 use transducer::refusals;
 use words::Comparison;
 
-// How many numbers the answer to a verdict has: split, u and five counts.
-pub const VERDICT: usize = 7;
+// How many numbers the answer to a verdict has: split, u, five counts, and how many codes the two outputs have in common.
+pub const VERDICT: usize = 8;
 // The answer to a translation: a length.
 pub const TRANSLATE: usize = 1;
 // The answer to a word test: yes or no.
 pub const ACCEPTS: usize = 1;
 // The answer to the useful pairs: u.
 pub const PAIRS: usize = 1;
-// The answer to a difference: its kind and a length.
+// The answer to a difference: its kind, and the number that a clash carries.
 pub const DIFFERENCE: usize = 2;
 // The answer to a writing: a byte count.
 pub const WRITE: usize = 1;
@@ -44,7 +44,7 @@ pub fn kind(comparison: Comparison) -> u64
         Comparison::Level => 0,
         Comparison::FirstAhead => 1,
         Comparison::SecondAhead => 2,
-        Comparison::Clash => 3,
+        Comparison::Clash(_) => 3,
     }
 }
 
@@ -60,7 +60,7 @@ pub fn give(answer: &mut [u64], numbers: &[u64], refusal: u8) -> u32
     0
 }
 
-// The same for the seven numbers of a verdict.
+// The same for the eight numbers of a verdict.
 pub fn give_verdict(answer: &mut [u64], verdict: Verdict) -> u32
     requires { ⌜ verdictAnswer ≤ length (now answer) ⌝ }
     ensures { λ r. ⌜ Given (decision.numberOf (verdict .outcome)) (numbersOf verdict) (now (answer .entry)) (now (answer .exit)) r ⌝ }
@@ -75,6 +75,7 @@ pub fn give_verdict(answer: &mut [u64], verdict: Verdict) -> u32
         counts.path_b as u64,
         counts.output_x as u64,
         counts.output_y as u64,
+        counts.shared as u64,
     ];
     give(answer, &numbers, outcome.number())
 }

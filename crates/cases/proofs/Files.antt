@@ -9,6 +9,7 @@ use native.Mathlib.Omega.{arith}
 use borrow.Author.Tests.{eqb-true}
 use lib.Dec.{eqb}
 use lib.ListN.{length}
+use Rattle.words.specs.Difference.{sharedOf}
 use Rattle.transducer.specs.Limits.{mostOutputs}
 use Rattle.transducer.specs.StateSet.{has, withState}
 use Rattle.transducer.specs.Transition.{firsts}
@@ -127,7 +128,7 @@ files-hold = each-member each-file
 
 pub listings : Listings
 unfolding verdictListing witnessListing refusalListing translationListing countedBytes recordBytes fieldsOf flatMap columnsOf leadingsOf leadingOf fileP lines bytes
-listings = record { single = refl; refusal = refl; output = refl; size-P = refl }
+listings = record { single = refl; split = refl; refusal = refl; output = refl; size-P = refl }
 
 -- ---- what the verdict program prints of table P
 
@@ -136,7 +137,7 @@ abbrev shown-P : Buffers
 shown-P = buffersOf (1 ∷ []) (0 ∷ []) (1 ∷ []) (5 ∷ []) (6 ∷ [])
 
 P-listed : judgementListing (record { number = 0; «record» = 0; split = true; useful = 1; counts = countsOf shown-P }) (putAll lent shown-P) ≡ listingP
-unfolding judgementListing verdictListing witnessListing countedBytes recordBytes fieldsOf flatMap columnsOf leadingsOf leadingOf listingP lines bytes put
+unfolding judgementListing verdictListing witnessListing countedBytes recordBytes fieldsOf flatMap columnsOf leadingsOf leadingOf listingP lines bytes put sharedOf
 P-listed = refl
 
 P-table : tableOf fileP ≡ tableP

@@ -20,6 +20,9 @@ use Rattle.transducer.specs.declared.Transducer.{Transducer}
 use Rattle.transducer.proofs.Bools.{and-left, and-right, and-both}
 use Rattle.transducer.proofs.AcceptedLaws.{accepted-valid}
 use Rattle.product.specs.Numbers as product
+use Rattle.words.specs.Difference.{sharedOf, differenceOf}
+use Rattle.buffers.proofs.PutLaws.{front-put}
+use Rattle.witness.specs.Showing.{Buffers}
 use Rattle.wordtest.specs.Words as word
 use Rattle.joints.specs.Joint.{oneCode, jointStep, JointPath, JoinedPair}
 use Rattle.joints.proofs.JointLaws.{reached-states}
@@ -27,8 +30,10 @@ use Rattle.series.specs.Result.{gather, pairsBelow, pairs, bothIn, leads, rowLi
 use Rattle.series.specs.Join as join
 use Rattle.series.proofs.SeriesLaws.{same-joined}
 use Rattle.edits.specs.Edits as edit
-use Rattle.cases.specs.Cases.{setOfStates, oneState}
-use Rattle.cases.specs.Requests.{Request, RequestHolds, tested, joined, not-joined, edited, not-edited, tableFirst, tableSecond, joinedLines, tableJoined, tableTwo, tableSix, tableFull, requests}
+use Rattle.cases.specs.Cases.{setOfStates, oneState, shows, Holds}
+use Rattle.cases.specs.Requests.{Request, RequestHolds, tested, joined, not-joined, edited, not-edited, agree, tableFirst, tableSecond, joinedLines, tableJoined, tableTwo, tableSix, tableFull, requests}
+use Rattle.cases.proofs.TableP.{P-holds, ahead-holds}
+use Rattle.cases.proofs.Silent.{silent-5-holds}
 use Rattle.cases.proofs.Each.{Each, _also_, nothing, each-member}
 use Rattle.cases.proofs.Tables.{linesKeep, keepsOf, keeps-rules, no-lines-valid, P-valid}
 
@@ -195,10 +200,19 @@ is-refused t e number a refused other r h =
     let told : edit.refusalOf t e ≡ number = rw (a, refused, other) refl in
     (h .number ∙ told, h .table ∙ rw (told, other) refl)
 
+-- ---- job 8
+
+-- what stands at the front of the buffers is what is shown
+is-agreed : (t : Transducer) {u : ℕ} (s : Buffers) → Holds (shows t u s) → RequestHolds (agree t (s .output-x) (s .output-y) (sharedOf (s .output-x) (s .output-y)))
+is-agreed t s h b b′ r full d =
+    let shown = h .1 b b′ r full d in
+    rw (shown .counts, shown .filled) (front-put (b .output-x) (s .output-x), front-put (b .output-y) (s .output-y), refl)
+
 -- ---- every case
 
 each-request : Each RequestHolds requests
 unfolding requests allCodes allBelow edit.lineRefusal edit.editOf edit.editLines firstOf lineOf usedOf codesOf codeOf without firsts transducerOf
+    differenceOf sharedOf
 each-request =
     is-tested _ _ _ refl
     also is-tested _ _ _ refl
@@ -217,6 +231,12 @@ each-request =
     also is-refused _ _ _ P-valid refl refl
     also is-refused _ _ _ full-valid refl refl
     also is-refused _ _ _ full-valid refl refl
+    also refl
+    also refl
+    also refl
+    also is-agreed _ _ P-holds
+    also is-agreed _ _ silent-5-holds
+    also is-agreed _ _ ahead-holds
     also nothing
 
 -- every case of the list `requests` holds

@@ -1,7 +1,7 @@
 -- Small files and listings, byte for byte: the letters, columns and numbers of document 01 a second time, as it prints them. `files` and `listings` are the
 -- lists; proofs/Files.antt shows that every case of them holds.
 use mathlib.Core.Path.{_≡_}
-use mathlib.Core.Bool.{false}
+use mathlib.Core.Bool.{true, false}
 use mathlib.Core.List.{List, [], _∷_, _++_}
 use Prim.Native.Nat.{ℕ}
 use Prim.Native.Char.{code}
@@ -102,15 +102,19 @@ files =
 
 -- what the verdict program prints of table P
 unfoldable pub listingP : List ℕ
-listingP = lines ("V     1     1" ∷ "W     1     1" ∷ "A     1     0" ∷ "B     1     1" ∷ "X     1     5" ∷ "Y     1     6" ∷ [])
+listingP = lines ("V     1     1" ∷ "W     1     1" ∷ "A     1     0" ∷ "B     1     1" ∷ "X     1     5" ∷ "Y     1     6" ∷ "D     0" ∷ [])
 
 -- from the bytes of its file, whatever else the contracts leave open: any report that meets the verdict program's contract
 abbrev pub PrintedP : Type 0
 PrintedP = (out₀ out : List ℕ) (n : ℕ) → VerdictReport fileP out₀ out n → Puts out₀ 0 listingP out n
 
--- "fields six wide": listings of a single table with u = 6, of a refusal, and of a translation; and the size of table P's file
+-- "fields six wide": listings of a single table with u = 6, of a split one whose outputs are long, of a refusal, and of a translation; and the size of table
+-- P's file
 pub record Listings : Type 0 where
-  pub single : verdictListing false 6 [] [] [] [] [] ≡ lines ("V     0     6" ∷ [])
+  pub single : verdictListing false 6 [] [] [] [] [] 0 ≡ lines ("V     0     6" ∷ [])
+  -- document 02, job 8: "A split listing, and no other, gains a last record `D` with this number"
+  pub split : verdictListing true 6 [] [] (0 ∷ []) [] (5 ∷ []) 16375
+      ≡ lines ("V     1     6" ∷ "W     0" ∷ "A     0" ∷ "B     1     0" ∷ "X     0" ∷ "Y     1     5" ∷ "D 16375" ∷ [])
   pub refusal : refusalListing 3 17 ≡ lines ("R     3    17" ∷ [])
   pub output : translationListing (5 ∷ 250 ∷ []) ≡ lines ("X     2     5   250" ∷ [])
   -- "74 bytes"

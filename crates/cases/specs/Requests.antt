@@ -1,9 +1,11 @@
 -- Document 02's numbers, limits and orders on small words and tables, one small join and edits, written out: what its words say, a second time.
 -- `requests` is the list; proofs/Requests.antt shows that every case of it holds.
 use mathlib.Core.Path.{_≡_}
+use mathlib.Core.Bool.{true}
 use mathlib.Core.List.{List, [], _∷_}
 use Prim.Native.Nat.{ℕ}
-use lib.ListN.{replicate}
+use lib.ListN.{replicate, take}
+use Rattle.words.specs.Difference.{differenceOf, carriedOf}
 use Rattle.transducer.specs.Blank.{blankTransducer}
 use Rattle.transducer.specs.Lines.{transducerOf}
 use Rattle.transducer.specs.declared.Transition.{Transition}
@@ -11,11 +13,14 @@ use Rattle.transducer.specs.declared.Transducer.{Transducer}
 use Rattle.wordtest.specs.Numbers as word
 use Rattle.wordtest.specs.Tested.{Tested}
 use Rattle.wordtest.specs.declared.Acceptance.{Acceptance}
+use Rattle.witness.specs.Showing.{Buffers}
+use Rattle.functionality.specs.Decided.{fullOf, Decided}
+use Rattle.functionality.specs.declared.Verdict.{Verdict}
 use Rattle.series.specs.Join as join
 use Rattle.series.specs.declared.Joined.{Joined}
 use Rattle.edits.specs.Edits as edit
 use Rattle.edits.specs.declared.Edited.{Edited}
-use Rattle.cases.specs.Cases.{transitionOf, setOfStates, oneState, tableP}
+use Rattle.cases.specs.Cases.{transitionOf, setOfStates, oneState, twoLines, tableP, silent}
 
 -- ---- the kinds of cases
 
@@ -31,6 +36,10 @@ pub data Request : Type 0 where
   edited : Transducer → edit.Edit → Transducer → Request
   -- a transducer and an edit; the refusal
   not-edited : Transducer → edit.Edit → ℕ → Request
+  -- two words; the number that their difference carries
+  carries : List ℕ → List ℕ → ℕ → Request
+  -- a transducer that is split; the outputs that are shown, and how many codes the verdict says that they have in common
+  agree : Transducer → List ℕ → List ℕ → ℕ → Request
 
 -- every answer that meets the contract is what the case says
 abbrev pub RequestHolds : Request → Type 0
@@ -40,6 +49,10 @@ RequestHolds (not-joined first second number) =
     (r : Joined) → join.JoinedOf first second r → (join.numberOf (r .outcome) ≡ number) × (r .table ≡ blankTransducer)
 RequestHolds (edited t e t′) = (r : Edited) → edit.EditedBy t e r → (edit.numberOf (r .outcome) ≡ 0) × (r .table ≡ t′)
 RequestHolds (not-edited t e number) = (r : Edited) → edit.EditedBy t e r → (edit.numberOf (r .outcome) ≡ number) × (r .table ≡ t)
+RequestHolds (carries x y n) = carriedOf (differenceOf x y) ≡ n
+RequestHolds (agree t x y n) =
+    (b b′ : Buffers) (r : Verdict) → fullOf b ≡ true → Decided t b b′ r
+    → (take (r .counts .«output_x») (b′ .output-x) ≡ x) × (take (r .counts .«output_y») (b′ .output-y) ≡ y) × (r .counts .shared ≡ n)
 
 -- ---- tables
 
@@ -117,4 +130,12 @@ requests =
     ∷ not-edited tableP (edit.append lineBeyond) 19
     ∷ not-edited tableFull (edit.append (transitionOf 0 0 1 [])) 17
     ∷ not-edited tableFull (edit.append (transitionOf 0 1 1 [])) 19
+    -- job 8: "in the case of a clash, is to carry how many codes they share at the beginning, otherwise 0"; "how many X and Y share there, also where one is
+    -- a beginning of the other"; "for table P it is 0"
+    ∷ carries (5 ∷ 6 ∷ []) (5 ∷ 7 ∷ []) 1
+    ∷ carries (5 ∷ []) (5 ∷ 6 ∷ []) 0
+    ∷ carries (5 ∷ 6 ∷ []) (5 ∷ 6 ∷ []) 0
+    ∷ agree tableP (5 ∷ []) (6 ∷ []) 0
+    ∷ agree (silent (5 ∷ [])) [] (5 ∷ []) 0
+    ∷ agree (twoLines (5 ∷ []) (5 ∷ 6 ∷ [])) (5 ∷ []) (5 ∷ 6 ∷ []) 1
     ∷ []

@@ -6,7 +6,7 @@ ghost use Rattle.engine.specs.Engine.{Judged, FileTranslated};
 use witness::Counts;
 
 // What became of a file that is judged: document 01's refusal number (0: none) and record number; whether the table is split; u; and how many
-// items of a witness stand in each buffer.
+// items of a witness stand in each buffer and how many codes its outputs have in common, all 0 unless it is split.
 pub struct Judgement {
     pub number: u16,
     pub record: u16,
@@ -54,6 +54,7 @@ pub fn judge(
                 path_b: 0,
                 output_x: 0,
                 output_y: 0,
+                shared: 0,
             },
         };
     }

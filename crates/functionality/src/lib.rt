@@ -53,8 +53,8 @@ impl Outcome {
     }
 }
 
-// The outcome; how many useful pairs there are (document 01: u); and how many items of a witness stand in each buffer, none unless the
-// transducer is not functional.
+// The outcome; how many useful pairs there are (document 01: u); and how many items of a witness stand in each buffer and how many codes its outputs have in
+// common, all 0 unless the transducer is not functional.
 pub struct Verdict {
     pub outcome: Outcome,
     pub useful: u16,
@@ -117,6 +117,7 @@ fn quiet(outcome: Outcome, useful: u16) -> Verdict
             path_b: 0,
             output_x: 0,
             output_y: 0,
+            shared: 0,
         },
     }
 }

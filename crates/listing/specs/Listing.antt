@@ -31,6 +31,10 @@ letterX = 88
 abbrev pub letterY : ℕ
 letterY = 89
 
+-- the letter of how far X and Y agree, `D`
+abbrev pub letterD : ℕ
+letterD = 68
+
 -- the letter of a refusal, `R`
 abbrev pub letterR : ℕ
 letterR = 82
@@ -41,15 +45,17 @@ letterR = 82
 abbrev pub verdictNumber : Bool → ℕ
 verdictNumber split = cond split 1 0
 
--- the records of a witness: the input word, path A, path B, the outputs of A and B, each a count and then the items
-unfoldable pub witnessListing : (w a b x y : List ℕ) → List ℕ
-witnessListing w a b x y =
+-- the records of a witness: the input word, path A, path B, the outputs of A and B, each a count and then the items; and `D`, how many codes the outputs have
+-- in common
+unfoldable pub witnessListing : (w a b x y : List ℕ) → ℕ → List ℕ
+witnessListing w a b x y shared =
     countedBytes listingColumns letterW w ++ countedBytes listingColumns letterA a ++ countedBytes listingColumns letterB b
-    ++ countedBytes listingColumns letterX x ++ countedBytes listingColumns letterY y
+    ++ countedBytes listingColumns letterX x ++ countedBytes listingColumns letterY y ++ recordBytes listingColumns letterD (shared ∷ [])
 
 -- what the verdict program prints: `V` verdict and u; for split also the witness
-unfoldable pub verdictListing : Bool → ℕ → (w a b x y : List ℕ) → List ℕ
-verdictListing split u w a b x y = recordBytes listingColumns letterV (verdictNumber split ∷ u ∷ []) ++ cond split (witnessListing w a b x y) []
+unfoldable pub verdictListing : Bool → ℕ → (w a b x y : List ℕ) → ℕ → List ℕ
+verdictListing split u w a b x y shared =
+    recordBytes listingColumns letterV (verdictNumber split ∷ u ∷ []) ++ cond split (witnessListing w a b x y shared) []
 
 -- what either program prints of a refusal: `R`, the number, the record number
 unfoldable pub refusalListing : ℕ → ℕ → List ℕ
@@ -73,9 +79,9 @@ mostSteps = walks.mostSteps
 abbrev pub mostShown : ℕ
 mostShown = walks.mostShown
 
--- the longest listing of a verdict: `V`, and five records with their counts and items
+-- the longest listing of a verdict: `V`, five records with their counts and items, and `D`
 abbrev pub mostVerdictBytes : ℕ
-mostVerdictBytes = pairBytes + 5 * (2 + listingColumns) + listingColumns * (3 * mostSteps + 2 * mostShown)
+mostVerdictBytes = pairBytes + 5 * (2 + listingColumns) + listingColumns * (3 * mostSteps + 2 * mostShown) + 2 + listingColumns
 
 -- the most items of a translation
 abbrev pub mostTranslated : ℕ

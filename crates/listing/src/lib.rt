@@ -11,17 +11,19 @@ use witness::CODES;
 use witness::STEPS;
 use wordsearch::limits;
 
-// The bytes of the longest listing of a verdict: `V` with two numbers, and five records of a count and items, `STEPS` of the input word and of each path
-// and `CODES` of each output. A record has two bytes beside its fields, the letter and the end.
+// The bytes of the longest listing of a verdict: `V` with two numbers, five records of a count and items, `STEPS` of the input word and of each path
+// and `CODES` of each output, and `D` with one number. A record has two bytes beside its fields, the letter and the end.
 pub const VERDICT_BYTES: usize = 2
     + 2 * LISTING_COLUMNS
     + 5 * (2 + LISTING_COLUMNS)
-    + LISTING_COLUMNS * (3 * STEPS + 2 * CODES);
+    + LISTING_COLUMNS * (3 * STEPS + 2 * CODES)
+    + 2
+    + LISTING_COLUMNS;
 // The bytes of the longest listing of a translation: one record of a count and items.
 pub const TRANSLATION_BYTES: usize = 2 + LISTING_COLUMNS + LISTING_COLUMNS * limits::WRITTEN;
 
 // The listing of a verdict, from the front of `out`: `V` with 0 for single and 1 for split, and u; for split also the input word, the two paths and
-// their outputs. Returns its length.
+// their outputs, and how many codes these have in common at the beginning. Returns its length.
 pub fn list_verdict(
     split: bool,
     u: u16,
@@ -30,10 +32,11 @@ pub fn list_verdict(
     b: &[u16],
     x: &[u8],
     y: &[u8],
+    shared: u16,
     out: &mut [u8],
 ) -> usize
     requires { ⌜ VerdictRoom (now w) (now a) (now b) (now x) (now y) (now out) ⌝ }
-    ensures { λ r. ⌜ Puts (now (out .entry)) 0 (verdictListing split u (now (w .entry)) (now (a .entry)) (now (b .entry)) (now (x .entry)) (now (y .entry))) (now (out .exit)) r ⌝ }
+    ensures { λ r. ⌜ Puts (now (out .entry)) 0 (verdictListing split u (now (w .entry)) (now (a .entry)) (now (b .entry)) (now (x .entry)) (now (y .entry)) shared) (now (out .exit)) r ⌝ }
 {
     let numbers = [split as u16, u];
     let verdict = writer::put_record(out, 0, LISTING_COLUMNS, b'V', &numbers);
@@ -44,7 +47,9 @@ pub fn list_verdict(
     let path_a = writer::put_counted(out, word, LISTING_COLUMNS, b'A', a);
     let path_b = writer::put_counted(out, path_a, LISTING_COLUMNS, b'B', b);
     let output_x = writer::put_counted_bytes(out, path_b, LISTING_COLUMNS, b'X', x);
-    writer::put_counted_bytes(out, output_x, LISTING_COLUMNS, b'Y', y)
+    let output_y = writer::put_counted_bytes(out, output_x, LISTING_COLUMNS, b'Y', y);
+    let agreement = [shared];
+    writer::put_record(out, output_y, LISTING_COLUMNS, b'D', &agreement)
 }
 
 // The listing of a refusal, from the front of `out`: its number and the record number. Returns its length.

@@ -1,6 +1,7 @@
 // Two lists of 1,000,000 codes, in this program's own memory, and parts of them, compared by `words::difference` and `words::unmatched` (document 01, "The
 // difference of two outputs"). The codes 1 to 250 stand in turn in both lists; then the bytes that are no output codes, 0 and 251 to 255.
-// A line for each comparison: what is compared, how it comes out, how many codes the unmatched end has, and its first and its last code, or for each a dash.
+// A line for each comparison: what is compared, how it comes out, the number that it carries, how many codes the unmatched end has, and its first and its
+// last code, or for each a dash.
 ghost use mathlib.Core.Path.{_≡_};
 ghost use Prim.Native.Nat.{_+_, _≤_, _<_};
 ghost use lib.ListN.{length};
@@ -13,8 +14,10 @@ const CODES: usize = 1000000;
 const NAME: usize = 24;
 // The bytes of how it comes out.
 const OUTCOME: usize = 12;
-// Where the count of codes begins in a line, behind a space: 7 columns.
-const COUNT: usize = NAME + OUTCOME + 1;
+// Where the number that is carried begins in a line, behind a space: 7 columns.
+const CARRIED: usize = NAME + OUTCOME + 1;
+// Where the count of codes begins, behind a space: 7 columns.
+const COUNT: usize = CARRIED + 8;
 // Where the first code begins, behind a space: 3 columns.
 const FIRST: usize = COUNT + 8;
 // Where the last code begins, behind a space: 3 columns.
@@ -116,8 +119,9 @@ fn show<'a>(name: &[u8; NAME], x: &'a [u8], y: &'a [u8]) {
     line[FIRST + 2] = b'-';
     line[FINAL + 2] = b'-';
     put(&mut line, 0, name);
-    let outcome = named(words::difference(x, y));
-    put(&mut line, NAME, &outcome);
+    let comparison = words::difference(x, y);
+    put(&mut line, NAME, &named(comparison));
+    number(&mut line, CARRIED, 7, words::carried(comparison));
     let end = words::unmatched(x, y);
     numbers(&mut line, end);
     line[LINE - 1] = b'\n';
@@ -126,7 +130,7 @@ fn show<'a>(name: &[u8; NAME], x: &'a [u8], y: &'a [u8]) {
 
 // Puts into the line, which has `LINE` bytes, how many codes the end has, and where it has some its first and its last.
 fn numbers(line: &mut [u8], end: &[u8])
-    requires { ⌜ length (now line) ≡ 53 ⌝ }
+    requires { ⌜ length (now line) ≡ 61 ⌝ }
 {
     let n = end.len();
     number(line, COUNT, 7, n);
@@ -142,7 +146,7 @@ fn named(c: Comparison) -> [u8; OUTCOME] {
         Comparison::Level => *b"level       ",
         Comparison::FirstAhead => *b"first ahead ",
         Comparison::SecondAhead => *b"second ahead",
-        Comparison::Clash => *b"clash       ",
+        Comparison::Clash(_) => *b"clash       ",
     }
 }
 

@@ -128,6 +128,7 @@ module _ (r : Judgement) (b : Buffers) where
       → judgementListing r b
       ≡ verdictListing (r .split) (r .useful) (take (r .counts .word) (b .word)) (take (r .counts .«path_a») (b .path-a))
       (take (r .counts .«path_b») (b .path-b)) (take (r .counts .«output_x») (b .output-x)) (take (r .counts .«output_y») (b .output-y))
+      (r .counts .shared)
   unfolding judgementListing
   verdict-listed k = rw (eq-eqb _ _ k)
 
@@ -146,7 +147,8 @@ module _ {f out₀ out : List ℕ} {b : Buffers} {r : Judgement} {n : ℕ} (h : 
   pub verdict-report : r .number ≡ 0 → Sized b
       → Puts out₀ 0
       (verdictListing (r .split) (r .useful) (take (r .counts .word) (b .word)) (take (r .counts .«path_a») (b .path-a))
-      (take (r .counts .«path_b») (b .path-b)) (take (r .counts .«output_x») (b .output-x)) (take (r .counts .«output_y») (b .output-y)))
+      (take (r .counts .«path_b») (b .path-b)) (take (r .counts .«output_x») (b .output-x)) (take (r .counts .«output_y») (b .output-y))
+      (r .counts .shared))
       out n
       → VerdictReport f out₀ out n
   verdict-report k s p =
@@ -155,7 +157,7 @@ module _ {f out₀ out : List ℕ} {b : Buffers} {r : Judgement} {n : ℕ} (h : 
         buffers = b;
         judged = h;
         puts = rw (verdict-listed r b k) p;
-        fits = within (verdict-listing-room (r .split) (r .useful) (items-room b (judged-few h lent-sized s) room)) p;
+        fits = within (verdict-listing-room (r .split) (r .useful) (r .counts .shared) (items-room b (judged-few h lent-sized s) room)) p;
       }
 
 -- ---- a translation

@@ -6,6 +6,7 @@ use mathlib.Core.List.{List, []}
 use mathlib.Core.Logic.{_≢_}
 use Prim.Native.Nat.{ℕ, _-_, _*_}
 use lib.ListN.{take}
+use Rattle.words.specs.Difference.{sharedOf}
 use Rattle.transducer.specs.Refusals as refusal
 use Rattle.transducer.specs.Transition.{OutputWord, wordOf, bytesOf}
 use Rattle.transducer.specs.Paths.{Relates, Functional}
@@ -21,11 +22,12 @@ pub data VerdictPrinted (f listing : List ℕ) : Type 0 where
   -- a refused file: the reader's number and record
   refused : numberOf f ≢ 0 → listing ≡ refusalListing (numberOf f) (recordOf f) → VerdictPrinted f listing
   -- a functional transducer: single, and u
-  single : {u : ℕ} → Taken f → Functional (tableOf f) → UsefulCount (tableOf f) u → listing ≡ verdictListing false u [] [] [] [] []
+  single : {u : ℕ} → Taken f → Functional (tableOf f) → UsefulCount (tableOf f) u → listing ≡ verdictListing false u [] [] [] [] [] 0
       → VerdictPrinted f listing
-  -- any other: split, u, and a witness whose word and paths have at most 2u - 1 items
+  -- any other: split, u, a witness whose word and paths have at most 2u - 1 items, and how many codes its outputs have in common at the beginning
   split : {u : ℕ} {s : Buffers} → Taken f → (Functional (tableOf f) → ⊥) → UsefulCount (tableOf f) u → Shown (tableOf f) (2 * u - 1) s
-      → listing ≡ verdictListing true u (s .word) (s .path-a) (s .path-b) (s .output-x) (s .output-y) → VerdictPrinted f listing
+      → listing ≡ verdictListing true u (s .word) (s .path-a) (s .path-b) (s .output-x) (s .output-y) (sharedOf (s .output-x) (s .output-y))
+      → VerdictPrinted f listing
 
 -- the listing of the translation of an input word by the file f
 pub data TranslationPrinted (f input listing : List ℕ) : Type 0 where

@@ -32,12 +32,14 @@ lent =
       output-y = replicate mostShown 0;
     }
 
--- what is printed of a judgement that leaves b in the buffers: the refusal where it has a number, else the verdict with the items that are counted
+-- what is printed of a judgement that leaves b in the buffers: the refusal where it has a number, else the verdict with the items that are counted and how
+-- far the outputs agree
 unfoldable pub judgementListing : Judgement → Buffers → List ℕ
 judgementListing r b =
     cond (eqb (r .number) 0)
     (verdictListing (r .split) (r .useful) (take (r .counts .word) (b .word)) (take (r .counts .«path_a») (b .path-a))
-    (take (r .counts .«path_b») (b .path-b)) (take (r .counts .«output_x») (b .output-x)) (take (r .counts .«output_y») (b .output-y)))
+    (take (r .counts .«path_b») (b .path-b)) (take (r .counts .«output_x») (b .output-x)) (take (r .counts .«output_y») (b .output-y))
+    (r .counts .shared))
     (refusalListing (r .number) (r .«record»))
 
 -- from the bytes f of a file the buffer that held out₀ holds out: the listing of a judgement of f stands at its front, its n bytes fit, and the

@@ -55,6 +55,7 @@ pub fn verdict(text: &[u8; READ_BYTES], got: usize, out: &mut [u8; VERDICT_BYTES
         &path_b[0..b],
         &output_x[0..x],
         &output_y[0..y],
+        counts.shared,
         out,
     )
 }

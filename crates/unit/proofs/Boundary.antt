@@ -6,7 +6,7 @@ use Rattle.unit.proofs.Determined.{determined}
 use Rattle.unit.proofs.HeldCalls.{read-taken, read-table, read-then-write, write-then-read, edits-in-place, edited-file, series-of, alike-join}
 use Rattle.unit.proofs.HeldCalls.{joined-file, looks, look-shows}
 use Rattle.unit.proofs.There.{read-there, edits-there}
-use Rattle.unit.proofs.WordCalls.{verdict-means, alike-verdict, single-join, alike-translation, agreement}
+use Rattle.unit.proofs.WordCalls.{verdict-means, outputs-agree, alike-verdict, single-join, alike-translation, agreement}
 
 pub boundary : Boundary
 boundary =
@@ -21,6 +21,7 @@ boundary =
       read-then-write = read-then-write;
       write-then-read = λ g z k long. write-then-read g z k long;
       verdict-means = λ g z. verdict-means g z;
+      outputs-agree = λ g z. outputs-agree g z;
       alike-verdict = alike-verdict;
       alike-translation = alike-translation;
       agreement = agreement;

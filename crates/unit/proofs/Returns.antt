@@ -6,7 +6,7 @@ use mathlib.Core.Logic.{_≢_}
 use Prim.Native.Nat.{ℕ, _≤_}
 use mir.Val.{boolByte}
 use lib.ListN.{length}
-use Rattle.words.specs.Difference.{sharedOf, differenceOf}
+use Rattle.words.specs.Difference.{differenceOf, carriedOf}
 use Rattle.words.specs.declared.Comparison.{Comparison}
 use Rattle.transducer.specs.Refusals.{listTooShort}
 use Rattle.transducer.specs.Valid.{Shaped}
@@ -161,7 +161,7 @@ join-given {joined = joined} long first second joins number held =
 -- ---- the difference
 
 pub difference-given : {x y a a′ : List ℕ} {c : Comparison} {k n r : ℕ} → differenceAnswer ≤ length a → c ≡ differenceOf x y → k ≡ kindOf c
-    → n ≡ sharedOf x y → Given 0 (k ∷ n ∷ []) a a′ r → DifferenceGiven x y a a′ r
-difference-given {x} {y} {a} {a′} {r = r} long compares kind shared given =
-    let numbers : Given 0 (kindOf (differenceOf x y) ∷ sharedOf x y ∷ []) a a′ r = rw (kind, compares, shared) at given in
+    → n ≡ carriedOf c → Given 0 (k ∷ n ∷ []) a a′ r → DifferenceGiven x y a a′ r
+difference-given {x} {y} {a} {a′} {r = r} long compares kind carried given =
+    let numbers : Given 0 (kindOf (differenceOf x y) ∷ carriedOf (differenceOf x y) ∷ []) a a′ r = rw (kind, carried, compares) at given in
     record { call = begun long numbers }

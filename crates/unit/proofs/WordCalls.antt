@@ -1,13 +1,17 @@
--- What the verdict's first number means, how the word test agrees with the translation, and that alike tables are answered alike, which follows from demand
+-- What the verdict's first number and its last mean, how the word test agrees with the translation, and that alike tables are answered alike, which follows from demand
 -- 3. Assumes nothing.
 use mathlib.Core.Path.{_≡_, refl, sym, ap, _∙_}
 use mathlib.Core.Bool.{Bool, true, false, cond}
 use mathlib.Core.List.{List, [], _∷_}
-use mathlib.Core.Logic.{_≢_, _↔_}
-use Prim.Native.Nat.{ℕ, _≤_}
+use mathlib.Core.Logic.{_≢_, _↔_, _⊎_, inl, inr}
+use Prim.Native.Nat.{ℕ, _≤_, _<_}
 use native.Mathlib.Omega.{arith}
 use lib.Dec.{eqb}
 use lib.ListN.{length, getD, take}
+use Rattle.buffers.specs.Put.{put}
+use Rattle.buffers.proofs.PutLaws.{front-put}
+use Rattle.words.specs.Difference.{sharedOf}
+use Rattle.words.proofs.HowFar.{how-far}
 use Rattle.transducer.specs.Refusals.{invalid, tooShort, listTooShort}
 use Rattle.transducer.specs.Paths.{Functional}
 use Rattle.transducer.specs.Accepted.{acceptedOf}
@@ -21,14 +25,16 @@ use Rattle.wordtest.specs.Numbers as test
 use Rattle.wordtest.proofs.AnswerLaws as words
 use Rattle.witness.specs.Showing.{Buffers}
 use Rattle.functionality.specs.Decided as decision
-use Rattle.functionality.specs.Decided.{verdictOf, fullOf}
+use Rattle.functionality.specs.Decided.{verdictOf, fullOf, Decided}
+use Rattle.functionality.specs.declared.Verdict.{Verdict}
+use Rattle.functionality.proofs.DecidedLaws.{zero-or-one}
 use Rattle.functionality.specs.declared.Outcome.{Outcome}
 use Rattle.engine.specs.Engine.{judgementOf, fileTranslationOf}
 use Rattle.engine.specs.Demand3.{value, JudgedInFull, TranslatedInFull}
 use Rattle.engine.proofs.Demand3.{demand-3, served-same}
-use Rattle.answers.specs.Answers.{verdictAnswer, translateAnswer, acceptsAnswer}
+use Rattle.answers.specs.Answers.{verdictAnswer, translateAnswer, acceptsAnswer, numbersOf}
 use Rattle.unit.specs.Calls.{Decides, VerdictGiven, Translates, TranslationGiven, Tests, AcceptsGiven, JoinGiven}
-use Rattle.unit.specs.Laws.{OutputGiven, SameTranslation}
+use Rattle.unit.specs.Laws.{OutputsAgree, OutputGiven, SameTranslation}
 use Rattle.unit.proofs.CallLaws.{lent, done, answered, front}
 use Rattle.unit.proofs.Determined.{front-two, front-one}
 use Rattle.unit.proofs.HeldCalls.{series-of}
@@ -51,6 +57,33 @@ by-split Outcome.Functional = refl
 by-split Outcome.NotFunctional = refl
 by-split Outcome.BufferTooShort = refl
 by-split Outcome.Invalid = refl
+
+-- the counts say how far the outputs agree that a verdict leaves in the buffers
+module _ {t : Transducer} {b b′ : Buffers} {v : Verdict} (d : Decided t b b′ v) where
+  counts-agree : v .counts .shared ≡ sharedOf (take (v .counts .«output_x») (b′ .output-x)) (take (v .counts .«output_y») (b′ .output-y))
+  unfolding sharedOf
+  counts-agree = go (zero-or-one (v .outcome))
+    where
+      go : (verdictOf (v .outcome) ≡ 0) ⊎ (verdictOf (v .outcome) ≡ 1)
+          → v .counts .shared ≡ sharedOf (take (v .counts .«output_x») (b′ .output-x)) (take (v .counts .«output_y») (b′ .output-y))
+      go (inl e) = rw (d .unchanged e .1)
+      go (inr e) = let show = d .shows e in rw (show .counts, show .filled) (simp front-put)
+
+  counts-below : verdictOf (v .outcome) ≢ 0 → (v .counts .shared < v .counts .«output_x») ⊎ (v .counts .shared < v .counts .«output_y»)
+  counts-below split = go (zero-or-one (v .outcome))
+    where
+      go : (verdictOf (v .outcome) ≡ 0) ⊎ (verdictOf (v .outcome) ≡ 1)
+          → (v .counts .shared < v .counts .«output_x») ⊎ (v .counts .shared < v .counts .«output_y»)
+      go (inl e) = absurd (split e)
+      go (inr e) =
+          let show = d .shows e in
+          rw (show .counts) (how-far (show .lists .output-x) (show .lists .output-y) .below (show .shown .differ))
+
+-- the numbers of an answer
+numbers-there : (a : List ℕ) (v : Verdict) (P : ℕ → ℕ → ℕ → ℕ → Type 0) → P (verdictOf (v .outcome)) (v .counts .«output_x») (v .counts .«output_y») (v .counts .shared)
+    → let a′ = put a 0 (numbersOf v) in P (getD a′ 0 0) (getD a′ 5 0) (getD a′ 6 0) (getD a′ 7 0)
+unfolding put numbersOf
+numbers-there a v P p = p
 
 module _ {h a a′ : List ℕ} {b b′ : Buffers} {r : ℕ} (g : VerdictGiven h b b′ a a′ r) (z : r ≡ 0) where
   decides : Decides (tableIn h) b b′ a a′ r
@@ -75,6 +108,18 @@ module _ {h a a′ : List ℕ} {b b′ : Buffers} {r : ℕ} (g : VerdictGiven h 
       let first = ap (λ l. getD l 0 0) (decides .given .answered z) ∙ front-one a (decides .verdict) in
       let single = decides .decided .single none in
       (λ e. single .0 (sym first ∙ e), λ f. first ∙ single .1 f)
+
+  -- the last is how many codes the outputs have in common
+  pub outputs-agree : OutputsAgree b′ a′
+  outputs-agree =
+      let v = decides .verdict in
+      let d = decides .decided in
+      rw (decides .given .answered z)
+      record {
+        shared =
+            numbers-there a v (λ s x y k. k ≡ sharedOf (take x (b′ .output-x)) (take y (b′ .output-y))) (counts-agree d);
+        below = numbers-there a v (λ s x y k. s ≢ 0 → (k < x) ⊎ (k < y)) (counts-below d);
+      }
 
   -- the first two
   first-two : take 2 a′ ≡ verdictOf (decides .verdict .outcome) ∷ decides .verdict .useful ∷ []

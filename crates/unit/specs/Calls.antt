@@ -5,7 +5,7 @@ use mathlib.Core.Path.{_≡_}
 use mathlib.Core.List.{List, [], _∷_}
 use Prim.Native.Nat.{ℕ, _≤_}
 use lib.ListN.{length}
-use Rattle.words.specs.Difference.{sharedOf, differenceOf}
+use Rattle.words.specs.Difference.{differenceOf, carriedOf}
 use Rattle.transducer.specs.Refusals.{listTooShort}
 use Rattle.transducer.specs.declared.Transducer.{Transducer}
 use Rattle.records.specs.Letters.{mostFields}
@@ -40,9 +40,9 @@ use Rattle.series.specs.declared.Joined.{Joined}
 use Rattle.answers.specs.Answers.{fileCode, kindOf, numbersOf, Given, Flagged, HeldIn}
 use Rattle.answers.specs.Answers.{verdictAnswer, translateAnswer, acceptsAnswer, pairsAnswer, differenceAnswer, writeAnswer}
 
--- the version of the calls, of their answers and of held tables: 1.0, the first number in the upper 16 bits
+-- the version of the calls, of their answers and of held tables: 2.0, the first number in the upper 16 bits
 abbrev pub version : ℕ
-version = 65536
+version = 131072
 
 -- ---- lists of fixed size
 
@@ -165,6 +165,6 @@ pub record JoinGiven (h g m m′ : List ℕ) (r : ℕ) : Type 0 where
 
 -- ---- the difference of two words
 
--- what `yotselina_difference` returns and leaves: how the words compare, and how many codes they have in common at the beginning
+-- what `yotselina_difference` returns and leaves: how the words compare, and of a clash how many codes they have in common at the beginning, otherwise 0
 pub record DifferenceGiven (x y a a′ : List ℕ) (r : ℕ) : Type 0 where
-  pub call : Call (differenceAnswer ≤ length a) (a′ ≡ a) (Given 0 (kindOf (differenceOf x y) ∷ sharedOf x y ∷ []) a a′) r
+  pub call : Call (differenceAnswer ≤ length a) (a′ ≡ a) (Given 0 (kindOf (differenceOf x y) ∷ carriedOf (differenceOf x y) ∷ []) a a′) r

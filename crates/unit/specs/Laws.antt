@@ -4,10 +4,11 @@
 use mathlib.Core.Path.{_≡_}
 use mathlib.Core.Bool.{true, false, _&&_}
 use mathlib.Core.List.{List, [], _∷_, List·Memᴰ}
-use mathlib.Core.Logic.{_≢_, _↔_}
+use mathlib.Core.Logic.{_≢_, _↔_, _⊎_}
 use Prim.Native.Nat.{ℕ, _≤_, _<_, _/_, _%_}
 use lib.ListN.{length, getD, take, drop}
 use Rattle.buffers.specs.Put.{put}
+use Rattle.words.specs.Difference.{sharedOf}
 use Rattle.records.specs.Letters.{mostFields}
 use Rattle.transducer.specs.Refusals.{invalid, listTooShort}
 use Rattle.transducer.specs.Paths.{Functional}
@@ -86,6 +87,14 @@ pub record SameVerdict (b₁ b₂ : Buffers) (a₁ a₂ : List ℕ) (r₁ r₂ :
   pub front : take 2 a₁ ≡ take 2 a₂
   -- which witness is shown is free; where none is, all lists are the same
   pub unless-split : (r₁ ≡ 0 → getD a₁ 0 0 ≡ 0) → (b₁ ≡ b₂) × (a₁ ≡ a₂)
+
+-- how far the outputs agree that a verdict leaves in the buffers b′, by its answer a′, in which 5 and 6 are the places of their lengths; without a witness
+-- they are empty
+pub record OutputsAgree (b′ : Buffers) (a′ : List ℕ) : Type 0 where
+  -- the last number is how many codes they have in common at the beginning
+  pub shared : getD a′ 7 0 ≡ sharedOf (take (getD a′ 5 0) (b′ .output-x)) (take (getD a′ 6 0) (b′ .output-y))
+  -- those of a witness are longer, the one or the other
+  pub below : getD a′ 0 0 ≢ 0 → (getD a′ 7 0 < getD a′ 5 0) ⊎ (getD a′ 7 0 < getD a′ 6 0)
 
 -- a translation is done, and its output is the word `output`: the length stands in the answer list, the codes at the front of the buffer
 pub record OutputGiven (output out′ a′ : List ℕ) (r : ℕ) : Type 0 where
@@ -179,6 +188,8 @@ pub record Boundary : Type 0 where
   -- ---- the verdict and the translation
   -- the first number of the answer is 0 exactly where the table is functional: what the laws below ask of a table is what the verdict says of it
   pub verdict-means : {h a a′ : List ℕ} {b b′ : Buffers} {r : ℕ} → VerdictGiven h b b′ a a′ r → r ≡ 0 → (getD a′ 0 0 ≡ 0) ↔ Functional (tableIn h)
+  -- document 02, job 8: how far X and Y agree
+  pub outputs-agree : {h a a′ : List ℕ} {b b′ : Buffers} {r : ℕ} → VerdictGiven h b b′ a a′ r → r ≡ 0 → OutputsAgree b′ a′
   -- demand 3, the last two sentences: two tables that are alike. Their verdicts, where neither call is refused, have the same first two numbers
   pub alike-verdict : {h g a a′ c c′ : List ℕ} {b b′ d d′ : Buffers} {r s : ℕ} → Alike (tableIn h) (tableIn g)
       → VerdictGiven h b b′ a a′ r → r ≡ 0 → VerdictGiven g d d′ c c′ s → s ≡ 0 → take 2 a′ ≡ take 2 c′

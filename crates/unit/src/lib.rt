@@ -14,8 +14,8 @@ use transducer::refusals;
 // The refusal of a list that is shorter than the call needs before it can begin.
 const LIST_TOO_SHORT: u32 = refusals::LIST_TOO_SHORT as u32;
 
-// The version of the calls, of their answers and of held tables: 1.0.
-const VERSION: u32 = 65536;
+// The version of the calls, of their answers and of held tables: 2.0.
+const VERSION: u32 = 131072;
 
 // The version; a header of another does not fit this library.
 #[no_mangle]
@@ -66,7 +66,7 @@ pub extern "C" fn yotselina_write(table: &[u8], out: &mut [u8], answer: &mut [u6
     answers::give(answer, &numbers, writing.number())
 }
 
-// Tests whether a held table is functional. A witness that it is not is put into the five buffers; the answer is the seven numbers of the verdict.
+// Tests whether a held table is functional. A witness that it is not is put into the five buffers; the answer is the eight numbers of the verdict.
 #[no_mangle]
 pub extern "C" fn yotselina_verdict(
     table: &[u8],
@@ -256,7 +256,8 @@ pub extern "C" fn yotselina_join(first: &[u8], second: &[u8], result: &mut [u8])
     answers::give_table(result, made, outcome.number() as u32)
 }
 
-// The difference of two lists of output codes: the answer is how they compare, and how many codes they have in common at the beginning.
+// The difference of two lists of output codes: the answer is how they compare, and of a clash how many codes they have in common at the beginning,
+// otherwise 0.
 #[no_mangle]
 pub extern "C" fn yotselina_difference(x: &[u8], y: &[u8], answer: &mut [u64]) -> u32
     ensures { λ r. ⌜ DifferenceGiven (now (x .entry)) (now (y .entry)) (now (answer .entry)) (now (answer .exit)) r ⌝ }
@@ -264,7 +265,8 @@ pub extern "C" fn yotselina_difference(x: &[u8], y: &[u8], answer: &mut [u64]) -
     if answer.len() < answers::DIFFERENCE {
         return LIST_TOO_SHORT;
     }
-    let kind = answers::kind(words::difference(x, y));
-    let numbers = [kind, words::shared(x, y) as u64];
+    let comparison = words::difference(x, y);
+    let kind = answers::kind(comparison);
+    let numbers = [kind, words::carried(comparison) as u64];
     answers::give(answer, &numbers, 0)
 }

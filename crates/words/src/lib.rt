@@ -1,9 +1,9 @@
 // The difference of two words (document 01, "The difference of two outputs"): what they have in common at the beginning is stripped,
 // and the rests tell how the two compare and what of the longer one is unmatched. The contracts cite `differenceOf` and `unmatchedOf`
-// of specs/Difference.antt. specs/Laws.antt says that a common beginning can be left out; other laws are in proofs/.
+// of specs/Difference.antt. specs/Laws.antt says that a common beginning can be left out, and what the numbers say; other laws are in proofs/.
 ghost use mathlib.Core.Path.{_≡_};
 ghost use denote.Ref.{ptr};
-ghost use Rattle.words.specs.Difference.{sharedOf, differenceOf, unmatchedOf, shownAt};
+ghost use Rattle.words.specs.Difference.{sharedOf, differenceOf, carriedOf, unmatchedOf, shownAt};
 
 // How two words compare once their common beginning is stripped.
 pub enum Comparison {
@@ -13,8 +13,8 @@ pub enum Comparison {
     FirstAhead,
     // The first is used up, the second goes on.
     SecondAhead,
-    // Both go on, with different codes.
-    Clash,
+    // Both go on, with different codes; so many codes are stripped.
+    Clash(usize),
 }
 
 // How x and y compare. They may hold any bytes.
@@ -24,7 +24,7 @@ pub fn difference(x: &[u8], y: &[u8]) -> Comparison
     let n = shared(x, y);
     if n < x.len() {
         if n < y.len() {
-            Comparison::Clash
+            Comparison::Clash(n)
         } else {
             Comparison::FirstAhead
         }
@@ -34,6 +34,18 @@ pub fn difference(x: &[u8], y: &[u8]) -> Comparison
         } else {
             Comparison::Level
         }
+    }
+}
+
+// The number that a comparison carries: of a clash, how many codes the two words have in common at the beginning; otherwise 0.
+pub fn carried(comparison: Comparison) -> usize
+    ensures { λ r. ⌜ r ≡ carriedOf comparison ⌝ }
+{
+    match comparison {
+        Comparison::Level => 0,
+        Comparison::FirstAhead => 0,
+        Comparison::SecondAhead => 0,
+        Comparison::Clash(n) => n,
     }
 }
 
@@ -50,7 +62,7 @@ pub fn unmatched<'a>(x: &'a [u8], y: &'a [u8]) -> &'a [u8]
     }
 }
 
-// How many codes x and y have in common at the beginning.
+// How many codes x and y have in common at the beginning, also where one is the beginning of the other.
 pub fn shared(x: &[u8], y: &[u8]) -> usize
     ensures { λ r. ⌜ r ≡ sharedOf (now (x .entry)) (now (y .entry)) ⌝ }
 {

@@ -35,25 +35,30 @@ from-b c = from-a (c .before .before .before .before)
 abbrev from-x : tie.After-put-counted-bytes2 → tie.Else1
 from-x c = from-b (c .before .before .before .before)
 
+abbrev from-y : tie.After-put-counted-bytes3 → tie.Else1
+from-y c = from-x (c .before .before .before .before)
+
 room : (s : tie.Start)
     → Room (now (s .args .out)) 0
-    (verdictListing (s .args .split) (s .args .u) (now (s .args .w)) (now (s .args .a)) (now (s .args .b)) (now (s .args .x)) (now (s .args .y)))
-room s = verdict-listing-room (s .args .split) (s .args .u) (s .pre)
+    (verdictListing (s .args .split) (s .args .u) (now (s .args .w)) (now (s .args .a)) (now (s .args .b)) (now (s .args .x)) (now (s .args .y))
+    (s .args .shared))
+room s = verdict-listing-room (s .args .split) (s .args .u) (s .args .shared) (s .pre)
 
 -- i records of the witness are put
 abbrev Put : tie.Else1 → ℕ → List ℕ → ℕ → Type 0
 Put c i out at =
     let put = record-put c in
     let s = entry put .args in
-    Parts (witnessListing (now (s .w)) (now (s .a)) (now (s .b)) (now (s .x)) (now (s .y)))
-    (inRow (witnessParts (now (s .w)) (now (s .a)) (now (s .b)) (now (s .x)) (now (s .y)))) 5 (put .put-record .last .0) (put .put-record .result) i out at
+    Parts (witnessListing (now (s .w)) (now (s .a)) (now (s .b)) (now (s .x)) (now (s .y)) (s .shared))
+    (inRow (witnessParts (now (s .w)) (now (s .a)) (now (s .b)) (now (s .x)) (now (s .y)) (s .shared))) 6 (put .put-record .last .0)
+    (put .put-record .result) i out at
 
 none-put : (c : tie.Else1) → Put c 0 (record-put c .put-record .last .0) (record-put c .put-record .result)
 none-put c =
     let put = record-put c in
     let s = entry put .args in
-    parts-none (witness-parts (now (s .w)) (now (s .a)) (now (s .b)) (now (s .x)) (now (s .y)))
-    (witness-room (s .split) (s .u) (now (s .w)) (now (s .a)) (now (s .b)) (now (s .x)) (now (s .y)) (put .put-record .ensures)
+    parts-none (witness-parts (now (s .w)) (now (s .a)) (now (s .b)) (now (s .x)) (now (s .y)) (s .shared))
+    (witness-room (s .split) (s .u) (now (s .w)) (now (s .a)) (now (s .b)) (now (s .x)) (now (s .y)) (s .shared) (put .put-record .ensures)
     (not-false _ (c .if1 .left)) (room (entry put)))
 
 w-put : (c : tie.After-put-counted-bytes) → Put (from-w c) 1 (c .put-counted-bytes .last .0) (c .put-counted-bytes .result)
@@ -68,6 +73,9 @@ b-put c = part-next (a-put (c .before .before .before .before)) (omega arith) (c
 x-put : (c : tie.After-put-counted-bytes2) → Put (from-x c) 4 (c .put-counted-bytes2 .last .0) (c .put-counted-bytes2 .result)
 x-put c = part-next (b-put (c .before .before .before .before)) (omega arith) (c .put-counted-bytes2 .ensures)
 
+y-put : (c : tie.After-put-counted-bytes3) → Put (from-y c) 5 (c .put-counted-bytes3 .last .0) (c .put-counted-bytes3 .result)
+y-put c = part-next (x-put (c .before .before .before .before)) (omega arith) (c .put-counted-bytes3 .ensures)
+
 put-record-requires : tie.Need-put-record-requires
 put-record-requires c κs = (omega arith, record { room = simp length-record (omega arith) })
 
@@ -75,7 +83,7 @@ returns : tie.Need-returns
 returns c =
     let put = c .before .before .before in
     let s = entry put .args in
-    single-put (s .split) (s .u) (now (s .w)) (now (s .a)) (now (s .b)) (now (s .x)) (now (s .y)) (put .put-record .ensures) (not-true _ (c .if1 .taken))
+    single-put (s .split) (s .u) (now (s .w)) (now (s .a)) (now (s .b)) (now (s .x)) (now (s .y)) (s .shared) (put .put-record .ensures) (not-true _ (c .if1 .taken))
 
 put-counted-bytes-requires : tie.Need-put-counted-bytes-requires
 put-counted-bytes-requires c κs = ((omega arith, omega arith), part-room (none-put (c .before)) (omega arith))
@@ -94,14 +102,38 @@ put-counted-bytes-requires-3 c κs =
     let x = c .before .before .before in
     ((omega arith, omega (arith, entry (record-put (from-x x)) .pre .output-y)), part-room (x-put x) (omega arith))
 
+put-record-requires-2 : tie.Need-put-record-requires-2
+put-record-requires-2 c κs = (omega arith, part-room (y-put (c .before .before .before .before)) (omega arith))
+
+-- each record that is put leaves the buffer as long as it was
+same-length-2 : tie.Need-same-length-2
+same-length-2 c =
+    let d = c .before .before in
+    let y = d .before .before .before .before .before in
+    let x = y .before .before .before .before in
+    let b = x .before .before .before .before in
+    let a = b .before .before .before .before in
+    let w = a .before .before .before .before in
+    omega (
+      arith,
+      d .put-record2 .kept .0,
+      y .put-counted-bytes3 .kept .0,
+      x .put-counted-bytes2 .kept .0,
+      b .put-counted2 .kept .0,
+      a .put-counted .kept .0,
+      w .put-counted-bytes .kept .0,
+      record-put (from-w w) .put-record .kept .0,
+    )
+
 returns-2 : tie.Need-returns-2
 returns-2 c =
-    let x = c .before .before .before .before .before .before in
-    let put = record-put (from-x x) in
+    let d = c .before .before in
+    let y = d .before .before .before .before .before in
+    let put = record-put (from-y y) in
     let s = entry put .args in
-    split-put (s .split) (s .u) (now (s .w)) (now (s .a)) (now (s .b)) (now (s .x)) (now (s .y)) (put .put-record .ensures)
-    (not-false _ (from-x x .if1 .left)) (room (entry put))
-    (parts-all (part-next (x-put x) (omega arith) (c .before .before .put-counted-bytes3 .ensures)) (omega arith))
+    split-put (s .split) (s .u) (now (s .w)) (now (s .a)) (now (s .b)) (now (s .x)) (now (s .y)) (s .shared) (put .put-record .ensures)
+    (not-false _ (from-y y .if1 .left)) (room (entry put))
+    (parts-all (part-next (y-put y) (omega arith) (d .put-record2 .ensures)) (omega arith))
 
 pub list-verdict-spec : {M : Type 1} → statement M
 list-verdict-spec =
@@ -118,4 +150,6 @@ list-verdict-spec =
     put-counted-bytes-requires-2
     put-counted-bytes-requires-3
     (λ c. search needs)
+    put-record-requires-2
+    same-length-2
     returns-2)

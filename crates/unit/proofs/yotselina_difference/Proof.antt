@@ -9,18 +9,18 @@ use Rattle.unit.proofs.yotselina_difference.Tie as tie
 abbrev given : tie.After-slice-known2 → tie.After-give
 given c = c .before .before
 
-abbrev shared : tie.After-give → tie.After-shared
-shared c = c .before .before .before
+abbrev carried : tie.After-give → tie.After-carried
+carried c = c .before .before .before
 
 returns : tie.Need-returns
 returns c = record { call = too-short (λ long. omega (arith, long, c .if1 .taken)) refl }
 
 returns-2 : tie.Need-returns-2
 returns-2 c =
-    let size = shared (given c) in
-    let kind = size .before in
+    let number = carried (given c) in
+    let kind = number .before in
     let difference = kind .before in
-    difference-given (difference .before .if1 .left) (difference .difference .ensures) (kind .kind .ensures) (size .shared .ensures)
+    difference-given (difference .before .if1 .left) (difference .difference .ensures) (kind .kind .ensures) (number .carried .ensures)
     (given c .give .ensures)
 
 pub yotselina-difference-spec : {M : Type 1} → statement M

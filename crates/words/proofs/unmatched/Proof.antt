@@ -30,9 +30,9 @@ alone-unmatched : (l : List ℕ) → unmatchedRest l [] ≡ l
 alone-unmatched [] = refl
 alone-unmatched (a ∷ l) = refl
 
-alone-shown : {A : Type 0} (l : List ℕ) (x y : A) → ofAhead (compareRests l []) x y ≡ x
-alone-shown [] x y = refl
-alone-shown (a ∷ l) x y = refl
+alone-shown : {A : Type 0} (n : ℕ) (l : List ℕ) (x y : A) → ofAhead (compareRests n l []) x y ≡ x
+alone-shown n [] x y = refl
+alone-shown n (a ∷ l) x y = refl
 
 sub-result-3 : tie.Need-sub-result-3
 sub-result-3 c =
@@ -66,7 +66,7 @@ returns-3 c =
     let p = c .before .before in
     let y-ends = drop-of-length-le (Y p) (c .before .if1 .left) in (
       rw (whole-rest, known p .leaves, y-ends, alone-unmatched),
-      rw (known p .compares, y-ends, alone-shown (drop (p .shared .result) (X p)) (p .before .before .before .args .x .ptr), ← p .shared .ensures),
+      rw (known p .compares, y-ends, alone-shown (p .shared .result) (drop (p .shared .result) (X p)) (p .before .before .before .args .x .ptr), ← p .shared .ensures),
     )
 
 pub unmatched-spec : {M : Type 1} → statement M
