@@ -61,6 +61,7 @@ extern "C" {
 
 pub const WITNESS: usize = 2_047;
 pub const WITNESS_OUTPUT: usize = 16_376;
+pub const VERDICT_ANSWER: usize = 8;
 pub const OUTPUT: usize = 65_528;
 pub const ACCEPTS_INPUT: usize = 63;
 pub const ACCEPTS_OUTPUT: usize = 127;
@@ -113,7 +114,7 @@ pub struct Buffers {
     output: Vec<u8>,
     out: Vec<u8>,
     flags: Vec<u8>,
-    answer: [u64; 7],
+    answer: [u64; VERDICT_ANSWER],
     pub table: Held, // for calls that edit or make one
 }
 
@@ -126,7 +127,7 @@ impl Buffers {
             output: vec![0; OUTPUT],
             out: vec![0; FILE],
             flags: vec![0; PAIRS],
-            answer: [0; 7],
+            answer: [0; VERDICT_ANSWER],
             table: [0; HELD],
         }
     }
@@ -149,7 +150,7 @@ impl Buffers {
                 y.as_mut_ptr(),
                 WITNESS_OUTPUT,
                 answer.as_mut_ptr(),
-                7,
+                VERDICT_ANSWER,
             )
         };
         (returned, answer[0], answer[1])

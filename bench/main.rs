@@ -514,7 +514,9 @@ fn print_memory(buffers: &mut Buffers) {
         ("check", 0, |_, given| library::check(&given.file)),
         ("read", HELD, |buffers, given| library::read(&given.file, &mut buffers.table)),
         ("write", library::FILE + 8, |buffers, given| number(buffers.write(&given.table))),
-        ("verdict", 5 * library::WITNESS + 2 * library::WITNESS_OUTPUT + 7 * 8, |buffers, given| buffers.verdict(&given.table).0),
+        ("verdict", 5 * library::WITNESS + 2 * library::WITNESS_OUTPUT + 8 * library::VERDICT_ANSWER, |buffers, given| {
+            buffers.verdict(&given.table).0
+        }),
         ("translate", library::OUTPUT + 8, |buffers, given| number(buffers.translate(&given.table, &given.word))),
         ("accepts", 8, |buffers, Given { table, word, output, .. }| {
             buffers.accepts(table, &word[..word.len().min(library::ACCEPTS_INPUT)], output).0

@@ -82,6 +82,7 @@ static int verdict(void)
     print_codes("  writes:", output_x, answer[YOTSELINA_ANSWER_OUTPUT_X]);
     print_lines("path B, lines:", path_b, answer[YOTSELINA_ANSWER_PATH_B]);
     print_codes("  writes:", output_y, answer[YOTSELINA_ANSWER_OUTPUT_Y]);
+    printf("codes in common at the beginning: %lu\n", (unsigned long)answer[YOTSELINA_ANSWER_SHARED]);
     return 1;
 }
 

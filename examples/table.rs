@@ -64,13 +64,15 @@ mod yotselina {
         }
     }
 
-    /// Two accepting paths (numbers of lines) that read one word and write different outputs.
+    /// Two accepting paths (numbers of lines) that read one word and write different outputs, and how many codes these have in common at the
+    /// beginning.
     pub struct Witness {
         pub word: Vec<u8>,
         pub path_a: Vec<u16>,
         pub path_b: Vec<u16>,
         pub output_x: Vec<u8>,
         pub output_y: Vec<u8>,
+        pub shared: u64,
     }
 
     /// u, and a witness where the table is split.
@@ -111,7 +113,7 @@ mod yotselina {
             let mut word = vec![0; WITNESS];
             let (mut path_a, mut path_b) = (vec![0; WITNESS], vec![0; WITNESS]);
             let (mut output_x, mut output_y) = (vec![0; WITNESS_OUTPUT], vec![0; WITNESS_OUTPUT]);
-            let mut answer = [0; 7];
+            let mut answer = [0; 8];
             done(unsafe {
                 yotselina_verdict(
                     self.0.as_ptr(), TABLE,
@@ -123,13 +125,13 @@ mod yotselina {
                     answer.as_mut_ptr(), answer.len(),
                 )
             })?;
-            let [split, useful, words, lines_a, lines_b, codes_x, codes_y] = answer;
+            let [split, useful, words, lines_a, lines_b, codes_x, codes_y, shared] = answer;
             word.truncate(words as usize);
             path_a.truncate(lines_a as usize);
             path_b.truncate(lines_b as usize);
             output_x.truncate(codes_x as usize);
             output_y.truncate(codes_y as usize);
-            let witness = Witness { word, path_a, path_b, output_x, output_y };
+            let witness = Witness { word, path_a, path_b, output_x, output_y, shared };
             Ok(Verdict { useful, split: (split == 1).then_some(witness) })
         }
 
@@ -181,12 +183,13 @@ fn in_words(verdict: &yotselina::Verdict) -> String {
         None => format!("single: every input word has one output at most (u = {useful})\n"),
         Some(witness) => format!(
             "split: two accepting paths read one input word and write different outputs (u = {useful})\n\
-             word:{}\npath A, lines:{}\n  writes:{}\npath B, lines:{}\n  writes:{}\n",
+             word:{}\npath A, lines:{}\n  writes:{}\npath B, lines:{}\n  writes:{}\ncodes in common at the beginning: {}\n",
             spaced(&witness.word),
             spaced(&witness.path_a),
             spaced(&witness.output_x),
             spaced(&witness.path_b),
             spaced(&witness.output_y),
+            witness.shared,
         ),
     }
 }

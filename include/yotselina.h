@@ -102,7 +102,7 @@
 
 /* The version of this header: the major number in the upper 16 bits (it rises where a held table, an answer or what a call is given changes), the
    minor in the lower (it rises where calls are added). yotselina_version() is that of the library. */
-#define YOTSELINA_VERSION 0x00010000
+#define YOTSELINA_VERSION 0x00020000
 
 /* The number and the record of a refusal; `r` may be of any integer type that held what was returned. */
 #define YOTSELINA_NUMBER(r) ((uint32_t)(r) & 0xffffu)
@@ -154,7 +154,7 @@
 #define YOTSELINA_PAIRS 1024
 
 /* Each answer list: how many places it has, and what stands where. */
-#define YOTSELINA_VERDICT_ANSWER 7
+#define YOTSELINA_VERDICT_ANSWER 8
 #define YOTSELINA_ANSWER_SPLIT 0
 #define YOTSELINA_ANSWER_USEFUL 1
 #define YOTSELINA_ANSWER_WORD 2
@@ -162,6 +162,7 @@
 #define YOTSELINA_ANSWER_PATH_B 4
 #define YOTSELINA_ANSWER_OUTPUT_X 5
 #define YOTSELINA_ANSWER_OUTPUT_Y 6
+#define YOTSELINA_ANSWER_SHARED 7
 #define YOTSELINA_TRANSLATE_ANSWER 1
 #define YOTSELINA_ANSWER_CODES 0
 #define YOTSELINA_ACCEPTS_ANSWER 1
@@ -170,7 +171,7 @@
 #define YOTSELINA_ANSWER_PAIRS 0
 #define YOTSELINA_DIFFERENCE_ANSWER 2
 #define YOTSELINA_ANSWER_KIND 0
-#define YOTSELINA_ANSWER_COMMON 1
+#define YOTSELINA_ANSWER_CLASH_AT 1
 #define YOTSELINA_WRITE_ANSWER 1
 #define YOTSELINA_ANSWER_BYTES 0
 
@@ -261,6 +262,8 @@ YOTSELINA_CALL yotselina_write(const uint8_t *table, size_t table_length,
  *                       [YOTSELINA_ANSWER_USEFUL] u, the number of useful pairs of states, 0 to 1,024
  *                       [YOTSELINA_ANSWER_WORD] to [YOTSELINA_ANSWER_OUTPUT_Y] how many items are written to word, path_a, path_b, output_x,
  *                       output_y; 0 for single
+ *                       [YOTSELINA_ANSWER_SHARED] how many codes output_x and output_y have in common at the beginning, also where one is a
+ *                       beginning of the other: less than the longer has, so at most 16,375; 0 for single
  *
  * Split: there is an input word with two accepting paths that write different outputs. One such is shown: `word` has its codes, `path_a` and
  * `path_b` the numbers of the two paths' lines (from 0 in the order of the table), `output_x` and `output_y` what they write. Word and paths
@@ -428,8 +431,8 @@ YOTSELINA_CALL yotselina_join(const uint8_t *first, size_t first_length,
  *   answer         at least YOTSELINA_DIFFERENCE_ANSWER places:
  *                  [YOTSELINA_ANSWER_KIND] YOTSELINA_LEVEL (the lists are the same), YOTSELINA_FIRST_AHEAD (y is a beginning of x, which goes
  *                  on), YOTSELINA_SECOND_AHEAD (x is a beginning of y, which goes on), YOTSELINA_CLASH (they part before either ends)
- *                  [YOTSELINA_ANSWER_COMMON] how many codes the two have in common at the beginning; so where the unmatched end of the longer
- *                  one begins
+ *                  [YOTSELINA_ANSWER_CLASH_AT] of a clash, how many codes the two have in common at the beginning; else 0. Where one is ahead,
+ *                  its unmatched end begins at the length of the other
  *
  * Refusals: 100.
  * Stack: 4,096 bytes.

@@ -50,8 +50,7 @@ def verdict(library, options, content):
     useful, witness = library.verdict(library.read(content))
     if witness is None:
         return DONE, [f"single: every input word has one output at most (u = {useful:,})"]
-    difference = library.difference(witness.output_x, witness.output_y)
-    return SPLIT, words.split(table.parse(content), useful, witness, difference, options.all)
+    return SPLIT, words.split(table.parse(content), useful, witness, options.all)
 
 
 def note_split(library, options, held):

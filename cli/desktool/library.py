@@ -25,23 +25,23 @@ ACCEPTS_OUTPUT = 127
 WITNESS = 2_047
 WITNESS_OUTPUT = 16_376
 PAIRS = 1_024
-VERDICT_ANSWER = 7
+VERDICT_ANSWER = 8
 TRANSLATE_ANSWER = 1
 ACCEPTS_ANSWER = 1
 PAIRS_ANSWER = 1
-DIFFERENCE_ANSWER = 2
 WRITE_ANSWER = 1
-LEVEL, FIRST_AHEAD, SECOND_AHEAD, CLASH = range(4)
 
 
 class Witness(NamedTuple):
-    """An input word, two accepting paths (line numbers) that read it, and what they write."""
+    """An input word, two accepting paths (line numbers) that read it, what they write, and how many codes these outputs have in common at the
+    beginning."""
 
     word: tuple
     path_a: tuple
     path_b: tuple
     output_x: tuple
     output_y: tuple
+    shared: int
 
 
 # --- the shared object -----------------------------------------------------------------------------------------------
@@ -98,7 +98,7 @@ def lent(kind, places):
 class Library:
     """The calls of the header: on the bytes of a file, and on tables that are held (`read`, `join`); a refusal is raised."""
 
-    VERSION = 0x00010000  # of the header
+    VERSION = 0x00020000  # of the header
 
     def __init__(self, named=None):
         path = find(named)
@@ -150,8 +150,8 @@ class Library:
                  lent(ctypes.c_uint8, WITNESS_OUTPUT), lent(ctypes.c_uint8, WITNESS_OUTPUT))
         answer = lent(ctypes.c_uint64, VERDICT_ANSWER)
         self.call("verdict", table, *lists, answer)
-        split, useful, *counts = answer
-        return useful, Witness(*(tuple(places[:count]) for places, count in zip(lists, counts))) if split else None
+        split, useful, *counts, shared = answer
+        return useful, Witness(*(tuple(places[:count]) for places, count in zip(lists, counts)), shared) if split else None
 
     def translate(self, table, word):
         """The output's codes."""
@@ -182,9 +182,3 @@ class Library:
         result = lent(ctypes.c_uint8, TABLE)
         self.call("join", first, second, result)
         return result
-
-    def difference(self, x, y):
-        """The kind, and how many codes the two have in common at the beginning."""
-        answer = lent(ctypes.c_uint64, DIFFERENCE_ANSWER)
-        self.call("difference", lent(ctypes.c_uint8, x), lent(ctypes.c_uint8, y), answer)
-        return answer[0], answer[1]

@@ -2,8 +2,6 @@
 
 import textwrap
 
-from .library import FIRST_AHEAD, SECOND_AHEAD
-
 WIDTH = 100
 SHOWN = 40  # items of a long list that are shown, where not all are asked for
 
@@ -77,15 +75,14 @@ def writer_of(table, path, place):
     raise IndexError(place)
 
 
-def where_outputs_part(table, witness, difference):
-    """One sentence, from the library's difference of the two outputs."""
-    kind, common = difference
+def where_outputs_part(table, witness):
+    """One sentence, from the library's number of codes that the two outputs have in common."""
+    common = witness.shared
 
     def writes(name, path, output):
-        return f"{name} writes {output[common]} (line {writer_of(table, path, common)})"
+        return f"{name} writes {output[common]} (line {writer_of(table, path, common)})" if common < len(output) else f"{name} has ended"
 
-    a = "A has ended" if kind == SECOND_AHEAD else writes("A", witness.path_a, witness.output_x)
-    b = "B has ended" if kind == FIRST_AHEAD else writes("B", witness.path_b, witness.output_y)
+    a, b = writes("A", witness.path_a, witness.output_x), writes("B", witness.path_b, witness.output_y)
     place = f"after {counted(common, 'code')} in common" if common else "at the first code"
     return f"The outputs part {place}: {a}, {b}."
 
@@ -101,7 +98,7 @@ def lines_of_paths(table, witness):
     return columns(rows)
 
 
-def split(table, useful, witness, difference, every):
+def split(table, useful, witness, every):
     """A split verdict, line by line."""
     said = [f"split: one input word, two paths, two outputs (u = {useful:,})", ""]
     said += wrapped("word", word_listed(witness.word, every))
@@ -109,7 +106,7 @@ def split(table, useful, witness, difference, every):
         said += wrapped(f"path {name}", lines_listed(path, every))
         said += wrapped("  writes", listed(output, every))
     said += ["", *textwrap.wrap(where_paths_part(table, witness.path_a, witness.path_b), WIDTH),
-             *textwrap.wrap(where_outputs_part(table, witness, difference), WIDTH), ""]
+             *textwrap.wrap(where_outputs_part(table, witness), WIDTH), ""]
     said += lines_of_paths(table, witness)
     return said + ["", "Make both paths write the same, or take a line of one of them out, with its repeats; then ask again:",
                    "a table may be split in more than one place, and each verdict shows one."]

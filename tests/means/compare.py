@@ -47,7 +47,7 @@ def expected_verdict(content):
 
 
 def faults_of_verdict(programs, findings, content, expected, transducer):
-    """In what the verdict program's answer for a file is wrong; the sizes of the witnesses are counted."""
+    """In what the verdict program's answer for a file is wrong; the sizes of the witnesses are counted, and how far their outputs agree."""
     said, faults = answer(parse_verdict, programs.verdict, content)
     if faults:
         return faults
@@ -60,7 +60,8 @@ def faults_of_verdict(programs, findings, content, expected, transducer):
     _, left, right, left_output, right_output = said.witness
     findings.count("witnesses, longer path", size_name(max(len(left), len(right))))
     findings.count("witnesses, longer output", size_name(max(len(left_output), len(right_output))))
-    return faults_of_witness(transducer, said.useful, said.witness)
+    findings.count("witnesses, codes in common", size_name(said.shared))
+    return faults_of_witness(transducer, said.useful, said.witness, said.shared)
 
 
 def expected_translation(content, word):

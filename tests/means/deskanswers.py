@@ -47,7 +47,7 @@ SPLIT = "split: one input word, two paths, two outputs"
 
 
 def parse_words(said):
-    """A Verdict from its words; for split also the sentences where the paths part, and the rows of the lines."""
+    """A Verdict from its words; for split also the sentences where paths and outputs part, and the rows of the lines."""
     head, *paragraphs = said.rstrip("\n").split("\n\n")
     first = re.fullmatch(rf"({SINGLE}|{SPLIT}) \(u = ([\d,]+)\)", head)
     if not first or len(paragraphs) != (4 if first[1] == SPLIT else 0):
@@ -56,7 +56,10 @@ def parse_words(said):
     if not paragraphs:
         return Verdict(False, useful), "", []
     witness, parting, rows, _ = paragraphs
-    return Verdict(True, useful, parse_witness(witness)), " ".join(parting.split()), [" ".join(row.split()) for row in rows.split("\n")]
+    parting = " ".join(parting.split())
+    common = re.search(r"The outputs part after ([\d,]+) codes? in common: ", parting)
+    said = Verdict(True, useful, parse_witness(witness), int(common[1].replace(",", "")) if common else 0)
+    return said, parting, [" ".join(row.split()) for row in rows.split("\n")]
 
 
 def parse_witness(paragraph):
@@ -119,7 +122,7 @@ def faults_of_words(run, expected, transducer):
     if (said.split, said.useful) != (expected.split, expected.useful):
         return faults + [f"expected split {expected.split}, u {expected.useful}; said split {said.split}, u {said.useful}"], said
     if said.split:
-        faults += faults_of_witness(transducer, said.useful, said.witness)
+        faults += faults_of_witness(transducer, said.useful, said.witness, said.shared)
     if faults or not said.split:
         return faults, said
     _, path_a, path_b, _, _ = said.witness

@@ -6,8 +6,9 @@ from means.calls import (BROKEN, P_HELD, any_size, as_note, check, exact_sizes, 
 from means.compare import randomness
 from means.held import INVALID, LIST_TOO_SHORT, held_of, kept_in
 from means.library import CALLS, OF_FILES, OF_TABLES, Call, full_sizes, header_version
+from means.listing import parse_verdict
 from means.named import LATE, NO_FILE, P_FILE
-from means.owed import TOO_SHORT
+from means.owed import CLASH, COMPARISONS, TOO_SHORT
 from means.transducer import LINE_PLACES, MAX_WORD, places_of, table_file
 
 
@@ -118,6 +119,28 @@ def compare_orders(library, findings):
         findings.check("library, look at what is held wrongly", owes_only(library.call(random, "look", held), flags=kept_in(held)), held, name)
     said, version = library.call(random, "version").returned, header_version()
     findings.check("library, version", [] if said == version else [f"{said:#x}, and the header has {version:#x}"], b"")
+
+
+# --- outputs that a split verdict shows ------------------------------------------------------------------------------
+
+
+def compare_shown(library, findings):
+    """The verdict on the named tables that are split, with at least as many codes in common as is known, and the difference of the outputs that it shows:
+    where they clash it has the verdict's number, and where one is a beginning of the other 0."""
+    group, random = "outputs shown", randomness("library, outputs shown")
+    tables = [(title, transducer, parse_verdict(printed).shared) for title, transducer, printed in named.VERDICTS if parse_verdict(printed).split]
+    for title, transducer, least in (*tables, *named.PART_LATE):
+        call = library.call(random, "verdict", held_of(transducer))
+        if not check(findings, group, call, title):
+            continue
+        *_, x, y, shared = call.lent["answer"].items(8)
+        outputs = [bytes(call.lent[lent].items(count)) for lent, count in (("output_x", x), ("output_y", y))]
+        difference = library.call(random, "difference", *outputs)
+        check(findings, group, difference, title)
+        kind, at = difference.lent["answer"].items(2)
+        faults = [] if shared >= least and at == (shared if kind == CLASH else 0) else [f"{shared} codes in common; of the difference {kind}, {at}"]
+        findings.check(f"library, {group}", faults, table_file(transducer), title)
+        findings.count(f"library, {group}, codes in common", f"{shared} {COMPARISONS[kind]}:")
 
 
 # --- bytes behind the last record ------------------------------------------------------------------------------------

@@ -30,7 +30,7 @@ CALLS = {
     "read": (("file",), (("table", c_uint8, HELD),)),
     "write": (("table",), (("out", c_uint8, MAX_FILE), ("answer", c_uint64, 1))),
     "verdict": (("table",), (("word", c_uint8, MAX_WITNESS), ("path_a", c_uint16, MAX_WITNESS), ("path_b", c_uint16, MAX_WITNESS),
-                             ("output_x", c_uint8, MAX_WITNESS_OUTPUT), ("output_y", c_uint8, MAX_WITNESS_OUTPUT), ("answer", c_uint64, 7))),
+                             ("output_x", c_uint8, MAX_WITNESS_OUTPUT), ("output_y", c_uint8, MAX_WITNESS_OUTPUT), ("answer", c_uint64, 8))),
     "translate": (("table", "input"), (("output", c_uint8, MAX_TRANSLATION), ("answer", c_uint64, 1))),
     "accepts": (("table", "input", "output"), (("answer", c_uint64, 1),)),
     "useful_states": (("table",), (("flags", c_uint8, MAX_STATES),)),

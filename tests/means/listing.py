@@ -1,10 +1,11 @@
-"""What the programs print: records like the file's, with fields six wide; and the check of a witness from document 01 alone."""
+"""What the programs print: records like the file's, with fields six wide; and the check of a witness from documents 01 and 02 alone."""
 
 from dataclasses import dataclass
 
+from means import reference
 from means.transducer import record
 
-LETTERS = (b"V", b"W", b"A", b"B", b"X", b"Y", b"R")
+LETTERS = (b"V", b"W", b"A", b"B", b"X", b"Y", b"D", b"R")
 WIDTH = 6
 MAX_WITNESS = 2_047
 MAX_WITNESS_OUTPUT = 16_376
@@ -12,7 +13,7 @@ MAX_TRANSLATION = 65_528
 
 
 class Malformed(Exception):
-    """A listing that is not of the form that document 01 fixes."""
+    """A listing that is not of the form that documents 01 and 02 fix."""
 
 
 @dataclass(frozen=True)
@@ -26,11 +27,13 @@ class Refusal:
 
 @dataclass(frozen=True)
 class Verdict:
-    """What the verdict program says of a table that is taken. The witness is (word, path A, path B, output X, output Y), or None."""
+    """What the verdict program says of a table that is taken. The witness is (word, path A, path B, output X, output Y), or None; `shared` is how
+    many codes its outputs are said to have in common at the beginning."""
 
     split: bool
     useful: int
     witness: tuple | None = None
+    shared: int = 0
 
 
 def show(*records):
@@ -66,6 +69,14 @@ def items(record_read, letter):
     return tuple(numbers[1:])
 
 
+def number(record_read, letter):
+    """The number of a record that has this one only."""
+    found, numbers = record_read
+    if found != letter or len(numbers) != 1:
+        raise Malformed(f"not one number in the {letter} record: {found} {numbers[:8]}")
+    return numbers[0]
+
+
 def parse_verdict(listing):
     """A Refusal or a Verdict."""
     records = parse(listing)
@@ -74,10 +85,11 @@ def parse_verdict(listing):
     letter, numbers = records[0]
     if letter != "V":
         return refusal(records)
-    if len(numbers) != 2 or numbers[0] not in (0, 1) or len(records) != (6 if numbers[0] else 1):
+    if len(numbers) != 2 or numbers[0] not in (0, 1) or len(records) != (7 if numbers[0] else 1):
         raise Malformed(f"not a verdict: {len(records)} records, the first {letter} {numbers}")
-    witness = tuple(items(records[i], letter) for i, letter in enumerate("WABXY", 1)) if numbers[0] else None
-    return Verdict(numbers[0] == 1, numbers[1], witness)
+    if not numbers[0]:
+        return Verdict(False, numbers[1])
+    return Verdict(True, numbers[1], tuple(items(records[i], letter) for i, letter in enumerate("WABXY", 1)), number(records[6], "D"))
 
 
 def parse_translation(listing):
@@ -117,8 +129,8 @@ def writes(transducer, path):
     return tuple(code for number in path for code in transducer.transitions[number].output)
 
 
-def faults_of_witness(transducer, useful, witness):
-    """Everything in which the showing is not as document 01 wants it."""
+def faults_of_witness(transducer, useful, witness, shared):
+    """Everything in which the showing is not as document 01 wants it, and the number of codes in common not as document 02, job 8."""
     word, left, right, left_output, right_output = witness
     faults = []
     for name, path, output in (("A", left, left_output), ("B", right, right_output)):
@@ -135,6 +147,9 @@ def faults_of_witness(transducer, useful, witness):
         faults.append("the outputs are the same")
     if not left < right:
         faults.append("A does not stand before B in dictionary order")
+    common = reference.shared(left_output, right_output)
+    if shared != common:
+        faults.append(f"the outputs have {common} codes in common at the beginning, and not {shared}")
     bound = min(2 * useful - 1, MAX_WITNESS)
     for name, length in (("word", len(word)), ("path A", len(left)), ("path B", len(right))):
         if length > bound:

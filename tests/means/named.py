@@ -16,6 +16,7 @@ D = table(4, [0], [3], (0, 1, 1, 5, 6), (1, 3, 2), (0, 2, 1), (2, 3, 2, 5, 6))
 D_SPLIT = table(4, [0], [3], (0, 1, 1, 5, 6), (1, 3, 2), (0, 2, 1), (2, 3, 2, 6, 5))
 D_TWICE = D._replace(transitions=D.transitions * 2)
 ONE_STATE = table(1, [0], [0])
+EIGHT = (1, 2, 3, 4, 5, 6, 7, 250)  # as many codes as a line can write
 
 P_FILE = b"""T   1   1   1   2
 S   0
@@ -31,9 +32,9 @@ def single(useful):
     return show(("V", (0, useful)))
 
 
-def split(useful, word, left, right, left_output, right_output):
+def split(useful, word, left, right, left_output, right_output, shared):
     named = zip("WABXY", (word, left, right, left_output, right_output))
-    return show(("V", (1, useful)), *((letter, (len(items), *items)) for letter, items in named))
+    return show(("V", (1, useful)), *((letter, (len(items), *items)) for letter, items in named), ("D", (shared,)))
 
 
 def refused(number, at=0):
@@ -50,29 +51,57 @@ def output(*codes):
 VERDICTS = (
     ("no start state", table(2, [], [0, 1], (0, 1, 1, 5), (0, 1, 1, 6)), single(0)),
     ("one state, start and final, no lines", ONE_STATE, single(1)),
-    ("table P", P, split(1, [1], [0], [1], [5], [6])),
-    ("a loop that reads nothing and writes 5", table(1, [0], [0], (0, 0, 0, 5)), split(1, [], [], [0], [], [5])),
+    ("table P", P, split(1, [1], [0], [1], [5], [6], 0)),
+    ("a loop that reads nothing and writes 5", table(1, [0], [0], (0, 0, 0, 5)), split(1, [], [], [0], [], [5], 0)),
     ("a loop that reads and writes nothing", table(1, [0], [0], (0, 0, 0)), single(1)),
     ("table D", D, single(6)),
-    ("table D, the last line writing 6 5", D_SPLIT, split(6, [1, 2], [0, 1], [2, 3], [5, 6], [6, 5])),
+    ("table D, the last line writing 6 5", D_SPLIT, split(6, [1, 2], [0, 1], [2, 3], [5, 6], [6, 5], 0)),
     ("a line twice", table(1, [0], [0], P_LINES[0], P_LINES[0]), single(1)),
     ("table D, each line twice", D_TWICE, single(6)),
     ("P's lines at a state that is not reached", table(2, [0], [0], (1, 1, 1, 5), (1, 1, 1, 6)), single(1)),
     ("a clash at a pair that cannot finish",
      table(4, [0], [1], (0, 1, 1, 5), (0, 2, 1, 6), (2, 2, 1, 7), (1, 3, 2, 8), (2, 3, 2, 9)), single(2)),
-    ("one side reads nothing", table(3, [0], [2], (0, 2, 1, 5), (0, 1, 0, 6), (1, 2, 1)), split(5, [1], [0], [1, 2], [5], [6])),
+    ("one side reads nothing", table(3, [0], [2], (0, 2, 1, 5), (0, 1, 0, 6), (1, 2, 1)), split(5, [1], [0], [1, 2], [5], [6], 0)),
     ("5 ahead and 5 behind are not equal",
      table(4, [0], [3], (0, 1, 1, 5), (0, 2, 1), (0, 1, 2), (0, 2, 2, 5), (1, 3, 3), (2, 3, 3, 5)),
-     split(6, [2, 3], [2, 4], [3, 5], [], [5, 5])),
+     split(6, [2, 3], [2, 4], [3, 5], [], [5, 5], 0)),
     ("paths of different lengths", table(3, [0], [2], (0, 2, 1, 5), (0, 1, 1, 5), (1, 2, 0, 6)),
-     split(5, [1], [0], [1, 2], [5], [5, 6])),
+     split(5, [1], [0], [1, 2], [5], [5, 6], 1)),
+    ("Y is a beginning of X", table(3, [0], [2], (0, 1, 1, 5), (1, 2, 0, 6), (0, 2, 1, 5)), split(5, [1], [0, 1], [2], [5, 6], [5], 1)),
+    ("a clash behind eight codes in common", table(3, [0], [2], (0, 1, 1, *EIGHT), (1, 2, 2, 5), (1, 2, 2, 6)),
+     split(3, [1, 2], [0, 1], [0, 2], [*EIGHT, 5], [*EIGHT, 6], 8)),
+    ("a line in common that writes nothing", table(3, [0], [2], (0, 1, 1), (1, 2, 2, 5), (1, 2, 2, 6)),
+     split(3, [1, 2], [0, 1], [0, 2], [5], [6], 0)),
+    ("codes in common at the end only", table(1, [0], [0], (0, 0, 1, 5, 7), (0, 0, 1, 6, 7)), split(1, [1], [0], [1], [5, 7], [6, 7], 0)),
     ("a clash long before the end",
      table(6, [0], [5], (0, 1, 1, 5), (0, 2, 1, 6), (1, 3, 2), (2, 4, 2), (3, 5, 3), (4, 5, 3)),
-     split(10, [1, 2, 3], [0, 2, 4], [1, 3, 5], [5], [6])),
-    ("two starts", table(3, [0, 1], [2], (0, 2, 1, 5), (1, 2, 1, 6)), split(5, [1], [0], [1], [5], [6])),
-    ("lines 254 and 255 differ", table(1, [0], [0], *[(0, 0, 1)] * 254, (0, 0, 2, 5), (0, 0, 2, 6)), split(1, [2], [254], [255], [5], [6])),
-    ("state 31", table(32, [31], [31], (31, 31, 250, 5), (31, 31, 250, 6)), split(1, [250], [0], [1], [5], [6])),
+     split(10, [1, 2, 3], [0, 2, 4], [1, 3, 5], [5], [6], 0)),
+    ("two starts", table(3, [0, 1], [2], (0, 2, 1, 5), (1, 2, 1, 6)), split(5, [1], [0], [1], [5], [6], 0)),
+    ("lines 254 and 255 differ", table(1, [0], [0], *[(0, 0, 1)] * 254, (0, 0, 2, 5), (0, 0, 2, 6)), split(1, [2], [254], [255], [5], [6], 0)),
+    ("state 31", table(32, [31], [31], (31, 31, 250, 5), (31, 31, 250, 6)), split(1, [250], [0], [1], [5], [6], 0)),
     ("input and output codes of the same number", table(2, [0], [1], (0, 1, 5, 5), (0, 1, 6, 5)), single(2)),
+)
+
+ONES = (1,) * 8
+
+
+def parting_late(turning, *more):
+    """A table of 32 states, from 0 to 31, whose outputs part late. Of its states so many turn: input 1 moves each to the next, 2 moves the last to the
+    first and leaves the others (Cerny's automaton). Two paths begin together and turn; at the last state input 3 takes them half a turn apart, and from
+    there they come through every pair of different states, the last and the first at the end, where input 2 takes them together again. Each of these
+    lines writes eight ones. More are given: both paths read 4 at different states only if these are the last and the first."""
+    last = turning - 1
+    turns = [line for state in range(turning) for line in ((state, (state + 1) % turning, 1), (state, state if state < last else 0, 2))]
+    return table(32, [0], [31], *((*line, *ONES) for line in (*turns, (last, 0, 3), (last, turning // 2, 3))), *more)
+
+
+# name, with the least number of lines of two paths that read one word and write different outputs; table; the least number of codes that these outputs
+# have in common
+PART_LATE = (
+    ("X is a beginning of Y, 1,055 lines", parting_late(32, (31, 16, 4, *ONES), (0, 0, 4, *ONES[1:])), 8 * 1_055 - 1),
+    ("Y is a beginning of X, 1,055 lines", parting_late(32, (31, 16, 4, *ONES[1:]), (0, 0, 4, *ONES)), 8 * 1_055 - 1),
+    ("a clash with the last code of one, 992 lines", parting_late(31, (30, 15, 4, *ONES), (0, 0, 4, *ONES[1:]), (30, 31, 5, *ONES[1:], 2)), 8 * 992 - 2),
+    ("a clash of the last codes, 498 lines", parting_late(32, (31, 31, 4, *ONES), (0, 31, 4, *ONES[1:], 2)), 8 * 498 - 1),
 )
 
 # name, table, word, what the translating program prints byte for byte
@@ -105,9 +134,8 @@ TRANSLATIONS = (
 
 def longest_translation():
     """Every state at every position: 8,191 transitions of eight codes each."""
-    eight = (1, 2, 3, 4, 5, 6, 7, 250)
-    lines = [(state, state + 1, 0, *eight) for state in range(31)] + [(31, 0, 1, *eight)]
-    return table(32, [0], [31], *lines), [1] * MAX_WORD, eight * (MAX_TRANSLATION // 8)
+    lines = [(state, state + 1, 0, *EIGHT) for state in range(31)] + [(31, 0, 1, *EIGHT)]
+    return table(32, [0], [31], *lines), [1] * MAX_WORD, EIGHT * (MAX_TRANSLATION // 8)
 
 
 # --- files at the limits ---------------------------------------------------------------------------------------------

@@ -82,16 +82,16 @@ def owed_read(table, _call):
 
 
 def owed_verdict(table, call):
-    """Which word and paths a split verdict shows is free: they are checked, and owed as they stand."""
+    """Which word and paths a split verdict shows is free: they are checked, and how far their outputs agree; they are owed as they stand."""
     all_full(call)
     useful = len(table.pairs)
     if table.functional:
-        return {"answer": (0, useful, 0, 0, 0, 0, 0)}, []
-    said = call.lent["answer"].items(7)
+        return {"answer": (0, useful, 0, 0, 0, 0, 0, 0)}, []
+    said = call.lent["answer"].items(8)
     if said[:2] != (1, useful) or any(count > call.sizes[lent] for lent, count in zip(SHOWN, said[2:])):
         return {}, [f"expected split, u {useful}, and counts of what fits; answered {said}"]
     witness = tuple(call.lent[lent].items(count) for lent, count in zip(SHOWN, said[2:]))
-    return {"answer": said, **dict(zip(SHOWN, witness))}, faults_of_witness(table.transducer, useful, witness)
+    return {"answer": said, **dict(zip(SHOWN, witness))}, faults_of_witness(table.transducer, useful, witness, said[7])
 
 
 def owed_translate(table, call):
@@ -138,13 +138,12 @@ def owed_useful_pairs(table, call):
 
 
 def owed_difference(_table, call):
+    """How the lists compare; of a clash, how many codes they have in common, else 0."""
     x, y = call.inputs
-    common = next((place for place, (a, b) in enumerate(zip(x, y)) if a != b), min(len(x), len(y)))
+    common = reference.shared(x, y)
     if common < min(len(x), len(y)):
-        kind = CLASH
-    else:
-        kind = LEVEL if len(x) == len(y) else FIRST_AHEAD if len(x) > len(y) else SECOND_AHEAD
-    return {"answer": (kind, common)}, []
+        return {"answer": (CLASH, common)}, []
+    return {"answer": (LEVEL if len(x) == len(y) else FIRST_AHEAD if len(x) > len(y) else SECOND_AHEAD, 0)}, []
 
 
 def owed_write(table, call):

@@ -168,13 +168,16 @@ def useful_pairs(transducer):
 # --- functionality by residues ---------------------------------------------------------------------------------------
 
 
+def shared(left, right):
+    """How many codes two words have in common at the beginning, also where one is a beginning of the other."""
+    return next((place for place, (a, b) in enumerate(zip(left, right)) if a != b), min(len(left), len(right)))
+
+
 def residue(ahead, left, right):
     """The residue after a step: the unmatched ends of both sides, of which at most one is not empty; None for a clash."""
     left = ahead[0] + left
     right = ahead[1] + right
-    common = 0
-    while common < min(len(left), len(right)) and left[common] == right[common]:
-        common += 1
+    common = shared(left, right)
     left, right = left[common:], right[common:]
     return None if left and right else (left, right)
 

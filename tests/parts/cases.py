@@ -1,9 +1,9 @@
 """The named cases through both programs."""
 
 from means.compare import answer, as_codes, compare_translation, expected_verdict, faults_of_verdict
-from means.listing import Refusal, parse_translation
-from means.named import (BEHIND, D, D_SPLIT, FILES, LONGEST, P, P_FILE, TRANSLATIONS, VERDICTS, WHOLE, files_with_bytes_behind, longest_translation, output,
-                         refused, single, split, table)
+from means.listing import Refusal, parse_translation, parse_verdict
+from means.named import (BEHIND, D, D_SPLIT, FILES, LONGEST, P, P_FILE, PART_LATE, TRANSLATIONS, VERDICTS, WHOLE, files_with_bytes_behind,
+                         longest_translation, output, refused, single, split, table)
 from means.programs import Programs
 from means.transducer import MAX_CODE, MAX_FILE, MAX_WORD, table_file
 from means.workers import spread
@@ -24,6 +24,16 @@ def run_verdicts(programs, findings):
         faults = faults_of_bytes(printed, programs.verdict, content)
         faults += faults_of_verdict(programs, findings, content, *expected_verdict(content))
         findings.check(GROUP, faults, content, name)
+
+
+def run_late(programs, findings):
+    """Outputs with thousands of codes in common: no fewer than any two of a word have, whichever are shown."""
+    for name, transducer, least in PART_LATE:
+        content = table_file(transducer)
+        faults = faults_of_verdict(programs, findings, content, *expected_verdict(content))
+        said = None if faults else parse_verdict(programs.verdict(content))
+        findings.check(GROUP, faults or ([] if said.shared >= least else [f"{said.shared} codes in common"]), content, name)
+        findings.count("named case, outputs that part late", f"{said.shared} codes:" if said else "wrong")
 
 
 def run_refused_tables(programs, findings):
@@ -74,7 +84,7 @@ def run_in_pieces(programs, findings):
     """Standard input that comes in pieces is read to its end."""
     d_file = table_file(D)
     pieces = (P_FILE[:1], P_FILE[1:20], P_FILE[20:])
-    findings.check(GROUP, faults_of_bytes(split(1, [1], [0], [1], [5], [6]), programs.verdict, *pieces), P_FILE, "the file in pieces")
+    findings.check(GROUP, faults_of_bytes(split(1, [1], [0], [1], [5], [6], 0), programs.verdict, *pieces), P_FILE, "the file in pieces")
     pieces = (LONGEST[:5_000], LONGEST[5_000:], b"\n")
     findings.check(GROUP, faults_of_bytes(refused(6, 321), programs.verdict, *pieces), LONGEST, "the file and a byte after it, in pieces")
     findings.check(GROUP, faults_of_bytes(output(5, 6), programs.translate, d_file, b"\1", b"\2"), d_file, "the word in pieces")
@@ -83,7 +93,7 @@ def run_in_pieces(programs, findings):
 
 def compare_all(programs, findings):
     """One after the other, in one worker."""
-    for part in (run_verdicts, run_refused_tables, run_translations, run_longest, run_behind, run_in_pieces):
+    for part in (run_verdicts, run_late, run_refused_tables, run_translations, run_longest, run_behind, run_in_pieces):
         part(programs, findings)
 
 

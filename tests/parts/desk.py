@@ -16,7 +16,7 @@ from means.compare import as_codes, expected_verdict, randomness
 from means.deskanswers import (KINDS, expected_join, faults_of_joined, faults_of_run, faults_of_translation, faults_of_useful, faults_of_word_test,
                          faults_of_words, faults_where)
 from means.deskpicture import faults_of_picture
-from means.library import compile_c, find_archive
+from means.library import compile_c, find_archive, header_version
 from means.listing import Refusal, parse_verdict
 from means.namedjoins import LIMITS
 from means.owed import table_of
@@ -284,7 +284,7 @@ def try_damaged(tool, findings):
 
 def try_fake(tool, findings):
     """Libraries that answer every check with one number, for those that cannot be had: the tool says what the library says, whatever the file; of a
-    number that no refusal has, that it does not know it."""
+    number that no refusal has, that it does not know it. A library of another version is not asked."""
     source = tool.folder / "fake.c"
     for number, words in (*((number, WORDS[number]) for number in (7, 8, 18, 19, 100)), (refusals.UNUSED, UNKNOWN)):
         fake = tool.folder / f"fake{number}.so"
@@ -296,6 +296,13 @@ def try_fake(tool, findings):
         findings.count("desk tool, refusals by a fake library", number)
     run = tool.about(named.P_FILE, "verdict", "--library", str(fake))
     findings.check(GROUP, faults_of_run(run, 2, "", "has no call yotselina_version"), b"", "a library without the call")
+    for version in (header_version() - 0x10000, header_version() + 0x10000):
+        source.write_text(f"unsigned yotselina_version(void) {{ return {version}; }}\n", encoding="ascii")
+        other = tool.folder / f"version{version}.so"
+        complaint = compile_c("gcc", "-shared", "-fPIC", "-o", other, source)
+        run = tool.about(named.P_FILE, "verdict", "--library", str(other))
+        faults = [complaint] if complaint else faults_of_run(run, 2, "", f"is of another version, {version:#010x}")
+        findings.check(GROUP, faults, b"", f"a library of version {version:#010x}")
 
 
 # --- answers -----------------------------------------------------------------------------------------------------------
@@ -327,8 +334,8 @@ def try_table(tool, findings, name, transducer, word, tests, draw):
 
 
 def try_named_tables(tool, findings):
-    """Document 01's small tables."""
-    for name, transducer, _ in named.VERDICTS:
+    """Document 01's small tables, and those whose outputs part late."""
+    for name, transducer, _ in (*named.VERDICTS, *named.PART_LATE):
         try_table(tool, findings, name, transducer, b"\1", [(b"\1", b"\5")], len(transducer.transitions) <= 16)
 
 

@@ -11,7 +11,7 @@ from pathlib import Path
 from means import generate, lines, named, reference
 from means.compare import as_codes, expected_translation, expected_verdict, faults_of_output, randomness
 from means.deskanswers import KINDS, faults_of_run, faults_where, numbers
-from means.library import STRICT, compile_c, find_archive
+from means.library import STRICT, compile_c, find_archive, header_version
 from means.listing import Refusal
 from means.programs import ROOT, run_program
 from means.settings import share
@@ -34,13 +34,15 @@ def text_of(*names):
 
 
 def try_sizes(_, findings):
-    """The sizes in the tool and in the Rust example are the header's."""
+    """The sizes in the tool and in the Rust example are the header's, and the tool's version."""
     sizes = {name: int(number) for name, number in re.findall(r"^#define YOTSELINA_(\w+) (\d+)$", text_of("include", "yotselina.h"), re.MULTILINE)}
     tool = {name: value for name, value in vars(desktool.library).items() if name.isupper() and isinstance(value, int)}
     rust = {name: int(number) for name, number in re.findall(r"const (\w+): usize = ([\d_]+);", text_of("examples", "table.rs"))}
     for where, found in (("cli/desktool/library.py", tool), ("examples/table.rs", rust)):
         other = [f"{name} is {size} in {where} and {sizes.get(name)} in the header" for name, size in found.items() if sizes.get(name) != size]
         findings.check("header", other or faults_where((found, f"no sizes in {where}")), b"", "sizes")
+    same = desktool.library.Library.VERSION == header_version()
+    findings.check("header", faults_where((same, "cli/desktool/library.py has another version")), b"", "version")
 
 
 def try_stack(folder, findings):
@@ -99,10 +101,17 @@ def expected_of(content, word):
     return int(expected.split), f"{says} (u = {expected.useful})\n", ""
 
 
+def faults_of_shared(said):
+    """In what the number of codes in common is not that of the two outputs printed, where there are any."""
+    outputs = [numbers(codes) for codes in re.findall(r"^  writes:(.*)$", said, re.MULTILINE)]
+    common = numbers("".join(re.findall(r"^codes in common at the beginning: (\d+)$", said, re.MULTILINE)))
+    return faults_where((common == ((reference.shared(*outputs),) if outputs else ()), f"codes in common: {common}"))
+
+
 def faults_of_example(run, content, word):
     """In what an example's run is wrong, by the reference."""
     status, says, complaint = expected_of(content, word)
-    faults = faults_of_run(run, status, says, complaint)
+    faults = faults_of_run(run, status, says, complaint) + faults_of_shared(run[1])
     if faults or complaint or not word:
         return faults
     output = re.search(r"^output:(.*)$", run[1], re.MULTILINE)
@@ -110,10 +119,11 @@ def faults_of_example(run, content, word):
 
 
 def questions():
-    """Files and words: those of tables/, some of the named files, and generated ones."""
+    """Files and words: those of tables/, some of the named files, tables whose outputs part late, and generated ones."""
     for path in sorted((ROOT / "tables").iterdir()):
         yield from ((path.read_bytes(), word) for word in (b"", b"\1\2", b"\7", b"\0", b"\1" * 256))
     yield from ((content, b"\1") for _, content, _ in named.FILES[::6])
+    yield from ((table_file(transducer), b"") for _, transducer, _ in named.PART_LATE)
     for index in range(share(TABLES)):
         random = randomness("examples", index)
         transducer, _ = generate.KINDS[KINDS[index % len(KINDS)]][1](random)

@@ -1,5 +1,5 @@
 """Seeded faults: the library with one function made wrong in C, which the comparisons of the parts library, held, wordtest, join, edits, alike and
-threads must find."""
+threads must find; and the verdict program with its listing made wrong, which those of the part tables must find."""
 
 import subprocess
 import tempfile
@@ -7,14 +7,18 @@ from ctypes import c_uint8, c_uint16, c_uint64
 from itertools import product
 from pathlib import Path
 
-from means import alikes, atonce, differences, editing, everycall, heldtables, joins, wordtests
+from means import alikes, atonce, differences, editing, everycall, generate, heldtables, joins, wordtests
+from means.compare import expected_verdict, faults_of_verdict, randomness
 from means.findings import Findings
 from means.held import HELD
 from means.library import BY_VALUE, CALLS, EDITS, SOURCES, Library, build, compile_c, link_shared
-from means.named import WHOLE
+from means.listing import parse_verdict, show
+from means.named import LATE, WHOLE
+from means.programs import Programs
+from means.reference import shared
 from means.stack import run_stack, stack_of_lists
 from means.tools import Missing, debian
-from means.transducer import MAX_FILE
+from means.transducer import MAX_FILE, record, table_file
 from means.workers import spread
 
 GROUP = "library, seeded fault is found"
@@ -77,9 +81,11 @@ OWN = f"uint8_t own[{HELD}]; if (table_length >= {HELD}) {{{{ copy(own, table, {
 SHORT = f"table_length += table_length == {HELD - 1};"
 LONGER = f"if (table_length > {HELD}) return 100;"
 TWO_CODES = "if ({0}[99 + 12 * k + 3] > 1) {1}"
+# counts in the eighth number of a verdict what two lists have in common, of which the counts stand in the places given
+IN_COMMON = "if (!r && answer[0]) for (answer[7] = 0; answer[7] < answer[{0}] && answer[7] < answer[{1}] && {2}; answer[7]++);"
 # what is wrong, the function, what it does before and after the right one is called (r is what that returned)
 FAULTS = (
-    ("single for everything", "verdict", "", "if (!r && answer[0]) for (int i = 0; i < 7; i++) if (i != 1) answer[i] = 0;"),
+    ("single for everything", "verdict", "", "if (!r && answer[0]) for (int i = 0; i < 8; i++) if (i != 1) answer[i] = 0;"),
     ("one more useful pair", "verdict", "", "if (!r) answer[1]++;"),
     ("the paths in the wrong order", "verdict",
      "uint16_t *p = path_a; path_a = path_b; path_b = p; uint8_t *o = output_x; output_x = output_y; output_y = o;", ""),
@@ -89,6 +95,22 @@ FAULTS = (
     ("a byte before the list", "translate", "", "if (!r) output[-1] ^= 1;"),
     ("a place beyond the count", "translate", "", "if (!r && answer[0] < output_length) output[answer[0]] ^= 1;"),
     ("a single verdict writes", "verdict", "", "if (!r && !answer[0]) path_b[0] ^= 1;"),
+    ("one code more in common", "verdict", "", "if (!r && answer[0]) answer[7]++;"),
+    ("codes in common of a single table", "verdict", "", "if (!r && !answer[0]) answer[7] = 1;"),
+    ("the lines in common are counted", "verdict", "", IN_COMMON.format(3, 4, "path_a[answer[7]] == path_b[answer[7]]")),
+    ("the codes in common at the end are counted", "verdict", "",
+     IN_COMMON.format(5, 6, "output_x[answer[5] - 1 - answer[7]] == output_y[answer[6] - 1 - answer[7]]")),
+    ("the number that the difference carries", "verdict", "", "if (!r && (answer[7] == answer[5] || answer[7] == answer[6])) answer[7] = 0;"),
+    ("the number that the difference carries, where X is a beginning of Y", "verdict", "", "if (!r && answer[7] == answer[5]) answer[7] = 0;"),
+    ("a byte counts the codes in common", "verdict", "", "if (!r) answer[7] &= 0xff;"),
+    ("no more than 4,095 codes are compared", "verdict", "", "if (!r && answer[7] > 4095) answer[7] = 4095;"),
+    ("the eighth number is not written", "verdict", "uint64_t held = answer_length > 7 ? answer[7] : 0;", "if (!r) answer[7] = held;"),
+    ("the eighth number of a single table is not written", "verdict", "uint64_t held = answer_length > 7 ? answer[7] : 0;",
+     "if (!r && !answer[0]) answer[7] = held;"),
+    ("a ninth number is written", "verdict", "", "if (!r && answer_length > 8) answer[8] = 0;"),
+    ("seven places of the answer are taken", "verdict",
+     "uint64_t all[8], *lent = answer; int seven = answer_length == 7; if (seven) { answer = all; answer_length = 8; }",
+     "if (!r && seven) for (int i = 0; i < 7; i++) lent[i] = all[i];"),
     ("a refused call writes", "translate", "", "if (r == 11) answer[0] ^= 1;"),
     ("a refused call writes in the last place", "verdict", "", "if (r == 7 && output_y_length) output_y[output_y_length - 1] ^= 1;"),
     ("what is read is changed", "translate", "", "if (!r && input_length) ((uint8_t *)input)[0] ^= 1;"),
@@ -118,6 +140,16 @@ FAULTS = (
     ("a refused look writes", "look", "", "if (r && flags_length) flags[0] ^= 1;"),
     ("the last byte is not counted", "write", "", "if (!r) answer[0]--;"),
     ("the sides are exchanged", "difference", "", "if (!r && (answer[0] == 1 || answer[0] == 2)) answer[0] = 3 - answer[0];"),
+    ("the codes in common where one is ahead", "difference", "",
+     "if (!r && (answer[0] == 1 || answer[0] == 2)) answer[1] = x_length < y_length ? x_length : y_length;"),
+    ("the codes in common where the first is ahead", "difference", "", "if (!r && answer[0] == 1) answer[1] = y_length;"),
+    ("the codes in common where the second is ahead", "difference", "", "if (!r && answer[0] == 2) answer[1] = x_length;"),
+    ("the codes in common of lists that are level", "difference", "", "if (!r && !answer[0]) answer[1] = x_length;"),
+    ("a clash has no codes in common", "difference", "", "if (!r) answer[1] = 0;"),
+    ("a clash is one code later", "difference", "", "if (!r && answer[0] == 3) answer[1]++;"),
+    ("16 bits count the codes in common", "difference", "", "if (!r) answer[1] &= 0xffff;"),
+    ("the second number is written for a clash only", "difference", "uint64_t held = answer_length > 1 ? answer[1] : 0;",
+     "if (!r && answer[0] != 3) answer[1] = held;"),
     ("only the first 65,536 codes are compared", "difference", "if (x_length > 65536 && y_length > 65536) x_length = y_length = 65536;", ""),
     ("only the first 999,999 codes are compared", "difference", "if (x_length > 999999 && y_length > 999999) x_length = y_length = 999999;", ""),
     ("a byte over 250 ends a list", "difference", "size_t n = 0; while (n < x_length && x[n] < 251) n++; x_length = n;", ""),
@@ -259,6 +291,33 @@ SHARES = ("memory that threads share", "verdict", "static const uint8_t *volatil
 COPIES = ("a list is copied", "difference", "uint8_t copy[x_length + 1]; for (size_t i = 0; i < x_length; i++) copy[i] = x[i]; x = copy;", "")
 
 
+def of_split(change):
+    """A listing that is wrong where the table is split: what stands in place of its `D`, by the verdict that it says."""
+    return lambda listing: listing[:listing.rindex(b"D")] + change(parse_verdict(listing)) if listing.startswith(b"V     1") else listing
+
+
+def of_others(letter):
+    """A listing that begins so and has `D`, too."""
+    return lambda listing: listing + show(("D", (0,))) if listing.startswith(letter) else listing
+
+
+# what is wrong with `D`, and the listing that is made of the right one
+MISPRINTS = {
+    "one more": of_split(lambda said: show(("D", (said.shared + 1,)))),
+    "of the paths": of_split(lambda said: show(("D", (shared(*said.witness[1:3]),)))),
+    "from the end": of_split(lambda said: show(("D", (shared(*(output[::-1] for output in said.witness[3:])),)))),
+    "what the difference carries": of_split(lambda said: show(("D", (said.shared if said.shared < min(map(len, said.witness[3:])) else 0,)))),
+    "missing": of_split(lambda said: b""),
+    "twice": of_split(lambda said: show(*[("D", (said.shared,))] * 2)),
+    "with a count": of_split(lambda said: show(("D", (1, said.shared)))),
+    "with no number": of_split(lambda said: b"D\n"),
+    "four columns wide": of_split(lambda said: record("D", (said.shared,)).encode()),
+    "under another letter": of_split(lambda said: show(("V", (said.shared,)))),
+    "of a single table": of_others(b"V     0"),
+    "of a refused one": of_others(b"R"),
+}
+
+
 def source(name, before, after):
     """The wrong function in C, around the right one under another name."""
     read, written = CALLS[name]
@@ -331,7 +390,8 @@ def some_of(name):
     if name in ("append", "remove"):
         return [(editing.compare_known,), *product((editing.compare_each, editing.compare_ways), ("table P", "255 lines")),
                 *((editing.compare_refusals, *refused) for refused in editing.REFUSED), *SOME_LOOKS]
-    return [*product((everycall.compare_table,), KINDS, range(TABLES)), *product((everycall.compare_mixed,), range(MIXED)), (everycall.compare_orders,)]
+    return [*product((everycall.compare_table,), KINDS, range(TABLES)), *product((everycall.compare_mixed,), range(MIXED)), (everycall.compare_orders,),
+            *([(everycall.compare_shown,)] if name == "verdict" else ())]
 
 
 def comparisons_for(fault):
@@ -380,10 +440,34 @@ def try_copies(_, findings, archive):
     findings.check(GROUP, [] if grown else [f"not found: {COPIES[0]} ({COPIES[1]}): {taken}"], b"")
 
 
+class Misprinting(Programs):
+    """The programs, the verdict's listing with something wrong."""
+
+    def __init__(self, misprint):
+        super().__init__()
+        self.misprint = misprint
+
+    def verdict(self, *pieces):
+        return self.misprint(super().verdict(*pieces))
+
+
+def try_misprint(_, findings, what):
+    """Generated tables and a file that is refused, by the reference; with no misprint nothing is found."""
+    programs = Misprinting(MISPRINTS.get(what, bytes))
+    tables = [generate.KINDS[kind][1](randomness("misprints", kind, index))[0] for kind, index in product(KINDS, range(MIXED))]
+    contents = [LATE, *map(table_file, tables)]
+    found = [fault for content in contents for fault in faults_of_verdict(programs, Findings(), content, *expected_verdict(content))]
+    if what is None:
+        findings.check_apart("listings with no misprint", found[:3], b"")
+    else:
+        findings.check("listing, seeded fault is found", [] if found else [f"not found: D {what}"], b"")
+
+
 def run(findings):
     archive = build()
     with tempfile.TemporaryDirectory() as folder:
         parts = archive, compiled(Path(folder))
         jobs = [(try_fault, *parts, fault) for fault in (*FAULTS, *HELD_WRONGLY, *LOOKS, *REPEATS, *BEHIND, SHARES)] + [(try_copies, archive)]
         jobs += [(try_no_rule, *parts, made("no rule")) for made in (misjoined, misappended, misremoved, mislooked)]
+        jobs += [(try_misprint, what) for what in (*MISPRINTS, None)]
         spread(Library, jobs, findings, batch=2)

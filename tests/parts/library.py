@@ -4,7 +4,7 @@ from means import generate, named
 from means.calls import SOME_TABLES, check, exact_sizes, one_short, same_refusal
 from means.compare import randomness
 from means.differences import compare_differences, compare_long
-from means.everycall import LEAST, compare_behind, compare_counts_behind, compare_mixed, compare_orders, compare_table, inputs_of
+from means.everycall import LEAST, compare_behind, compare_counts_behind, compare_mixed, compare_orders, compare_shown, compare_table, inputs_of
 from means.held import held_of
 from means.library import OF_FILES, OF_TABLES, Library, build
 from means.listing import Refusal, parse_verdict
@@ -41,6 +41,6 @@ def run(findings):
     build()
     jobs = [(compare_table, kind, index) for kind, (count, _) in generate.KINDS.items() for index in range(share(-(-count // SOME_TABLES)))]
     jobs += [(compare_mixed, index) for index in range(share(MIXED))]
-    jobs += [(compare_orders,), (compare_files,), (compare_behind,), (compare_differences,), (compare_long,)]
+    jobs += [(compare_orders,), (compare_files,), (compare_shown,), (compare_behind,), (compare_differences,), (compare_long,)]
     jobs += [(compare_counts_behind, *whole) for whole in named.WHOLE]
     spread(Library, jobs, findings)

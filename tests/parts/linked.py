@@ -31,7 +31,7 @@ TIME_LIMIT = 300
 NUMBERS = (MAX_STATES, MAX_TRANSITIONS, HELD, MAX_FILE, LINE_PLACES, MAX_WORD, MAX_TRANSLATION, MAX_TESTED_INPUT, MAX_TESTED_OUTPUT, MAX_WITNESS,
            MAX_WITNESS_OUTPUT, MAX_STATES * MAX_STATES,
            *(full_sizes(name)["answer"] for name in ("write", "verdict", "translate", "accepts", "useful_pairs", "difference")),
-           0, 1, LEVEL, FIRST_AHEAD, SECOND_AHEAD, CLASH, 0, 1, 0, 0, 0, 1)
+           0, 1, LEVEL, FIRST_AHEAD, SECOND_AHEAD, CLASH, 0, 1, 7, 0, 0, 0, 1)
 MACROS = (6, 321, 7, 0x8000)  # and number and record of 6 in record 321 and of 0x80000007, which an int has held
 UNUSED = "#include \"yotselina.h\"\nint main(void) { yotselina_check(0, 0); return 0; }\n"  # what is returned is not looked at
 FOUND = 99  # exit status where valgrind has found something
@@ -166,6 +166,7 @@ def samples():
     p_file, d_file, most = named.P_FILE, table_file(named.D), longest_table()
     yield from (of_table(named.P, b"\1\1", b"\5\6"), of_table(named.D, b"\1\2", b"\5\6"), of_table(named.D_SPLIT, b"\1\2", b"\5"),
                 of_table(named.ONE_STATE, b"", b"", held_of(most)), of_table(longest, bytes(word), bytes(output)), of_table(most, b"\1\2", b"\1\xfa"),
+                *(of_table(transducer, b"\1") for _, transducer, _ in named.PART_LATE),
                 of_table(named.D, b"\1" * 256, b"\0" * 128), of_table(named.D, b"\0", b"\0"), of_table(named.D, b"\1", b"\0"),
                 of_table(named.P, b"\1" * MAX_TESTED_INPUT, b"\5\6" * 31 + b"\5"), of_table(longest, b"\1", bytes(output[:MAX_TESTED_OUTPUT])),
                 of_table(named.P, b"\1" * (MAX_TESTED_INPUT + 1), b"\5", BROKEN["no state"]),

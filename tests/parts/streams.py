@@ -16,7 +16,7 @@ from means.workers import spread
 
 GROUP = "stream"
 D_FILE = table_file(D)
-P_LISTING = split(1, [1], [0], [1], [5], [6])
+P_LISTING = split(1, [1], [0], [1], [5], [6], 0)
 SEEN_FILE = 13_203  # bytes of a file that are read
 SEEN_WORD = 256  # codes of a word that are read
 
