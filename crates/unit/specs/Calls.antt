@@ -78,7 +78,7 @@ pub record WriteGiven (h out out′ a a′ : List ℕ) (r : ℕ) : Type 0 where
 
 -- ---- the verdict
 
--- the verdict on t, and its seven numbers
+-- the verdict on t, and its eight numbers
 pub record Decides (t : Transducer) (b b′ : Buffers) (a a′ : List ℕ) (r : ℕ) : Type 0 where
   pub verdict : Verdict
   pub decided : Decided t b b′ verdict
