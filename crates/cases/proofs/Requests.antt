@@ -203,7 +203,8 @@ is-refused t e number a refused other r h =
 -- ---- job 8
 
 -- what stands at the front of the buffers is what is shown
-is-agreed : (t : Transducer) {u : ℕ} (s : Buffers) → Holds (shows t u s) → RequestHolds (agree t (s .output-x) (s .output-y) (sharedOf (s .output-x) (s .output-y)))
+is-agreed : (t : Transducer) {u : ℕ} (s : Buffers) → Holds (shows t u s)
+    → RequestHolds (agree t (s .output-x) (s .output-y) (sharedOf (s .output-x) (s .output-y)))
 is-agreed t s h b b′ r full d =
     let shown = h .1 b b′ r full d in
     rw (shown .counts, shown .filled) (front-put (b .output-x) (s .output-x), front-put (b .output-y) (s .output-y), refl)

@@ -72,6 +72,7 @@ same-agree e k =
       at-record = ap (λ r. r .«record») e;
       split = ap (λ r. r .split) e;
       useful = ap (λ r. r .useful) e;
+      shared = λ _ _. ap (λ r. r .counts .shared) e;
       unless-split = λ _. (e, k);
     }
 
@@ -85,6 +86,7 @@ verdicts-agree {v = v} d d′ =
       at-record = refl;
       split = ap (λ o. eqb (verdictOf o) 1) (same .outcome);
       useful = same .useful;
+      shared = same .shared;
       unless-split = λ e. let whole = same .unless-split (single-verdict v e) in (ap judgementOf (whole .0), whole .1);
     }
 

@@ -13,7 +13,7 @@ use Rattle.tablereader.specs.Reader.{readOf}
 use Rattle.translator.specs.Numbers as translation
 use Rattle.translator.specs.Translated.{Translated}
 use Rattle.translator.specs.declared.Translation.{Translation}
-use Rattle.witness.specs.Showing.{Buffers}
+use Rattle.witness.specs.Showing.{Buffers, xIn, yIn}
 use Rattle.functionality.specs.Decided as verdict
 use Rattle.functionality.specs.Decided.{Decided, noCounts}
 use Rattle.functionality.specs.declared.Verdict.{Verdict}
@@ -73,6 +73,8 @@ pub record Agree (b′ b″ : Buffers) (r r′ : Judgement) : Type 0 where
   pub at-record : r .«record» ≡ r′ .«record»
   pub split : r .split ≡ r′ .split
   pub useful : r .useful ≡ r′ .useful
+  -- the same outputs have the same number of codes in common
+  pub shared : xIn b′ (r .counts) ≡ xIn b″ (r′ .counts) → yIn b′ (r .counts) ≡ yIn b″ (r′ .counts) → r .counts .shared ≡ r′ .counts .shared
   -- which witness a split verdict shows is free; any other judgement is the same whole, and leaves the same
   pub unless-split : r .split ≡ false → (r ≡ r′) × (b′ ≡ b″)
 

@@ -36,7 +36,10 @@ pub fn list_verdict(
     out: &mut [u8],
 ) -> usize
     requires { ⌜ VerdictRoom (now w) (now a) (now b) (now x) (now y) (now out) ⌝ }
-    ensures { λ r. ⌜ Puts (now (out .entry)) 0 (verdictListing split u (now (w .entry)) (now (a .entry)) (now (b .entry)) (now (x .entry)) (now (y .entry)) shared) (now (out .exit)) r ⌝ }
+    ensures { λ r. ⌜
+        Puts (now (out .entry)) 0
+        (verdictListing split u (now (w .entry)) (now (a .entry)) (now (b .entry)) (now (x .entry)) (now (y .entry)) shared) (now (out .exit)) r
+        ⌝ }
 {
     let numbers = [split as u16, u];
     let verdict = writer::put_record(out, 0, LISTING_COLUMNS, b'V', &numbers);

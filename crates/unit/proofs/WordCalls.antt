@@ -1,17 +1,15 @@
--- What the verdict's first number and its last mean, how the word test agrees with the translation, and that alike tables are answered alike, which follows from demand
--- 3. Assumes nothing.
+-- What the verdict's first number and its last mean, how the word test agrees with the translation, and that alike tables are answered alike, which follows
+-- from demand 3. Assumes nothing.
 use mathlib.Core.Path.{_≡_, refl, sym, ap, _∙_}
 use mathlib.Core.Bool.{Bool, true, false, cond}
 use mathlib.Core.List.{List, [], _∷_}
-use mathlib.Core.Logic.{_≢_, _↔_, _⊎_, inl, inr}
+use mathlib.Core.Logic.{_≢_, _↔_, _⊎_}
 use Prim.Native.Nat.{ℕ, _≤_, _<_}
 use native.Mathlib.Omega.{arith}
 use lib.Dec.{eqb}
 use lib.ListN.{length, getD, take}
 use Rattle.buffers.specs.Put.{put}
-use Rattle.buffers.proofs.PutLaws.{front-put}
 use Rattle.words.specs.Difference.{sharedOf}
-use Rattle.words.proofs.HowFar.{how-far}
 use Rattle.transducer.specs.Refusals.{invalid, tooShort, listTooShort}
 use Rattle.transducer.specs.Paths.{Functional}
 use Rattle.transducer.specs.Accepted.{acceptedOf}
@@ -25,9 +23,9 @@ use Rattle.wordtest.specs.Numbers as test
 use Rattle.wordtest.proofs.AnswerLaws as words
 use Rattle.witness.specs.Showing.{Buffers}
 use Rattle.functionality.specs.Decided as decision
-use Rattle.functionality.specs.Decided.{verdictOf, fullOf, Decided}
+use Rattle.functionality.specs.Decided.{verdictOf, fullOf}
 use Rattle.functionality.specs.declared.Verdict.{Verdict}
-use Rattle.functionality.proofs.DecidedLaws.{zero-or-one}
+use Rattle.functionality.proofs.DecidedLaws.{decided-shared, decided-below}
 use Rattle.functionality.specs.declared.Outcome.{Outcome}
 use Rattle.engine.specs.Engine.{judgementOf, fileTranslationOf}
 use Rattle.engine.specs.Demand3.{value, JudgedInFull, TranslatedInFull}
@@ -58,29 +56,9 @@ by-split Outcome.NotFunctional = refl
 by-split Outcome.BufferTooShort = refl
 by-split Outcome.Invalid = refl
 
--- the counts say how far the outputs agree that a verdict leaves in the buffers
-module _ {t : Transducer} {b b′ : Buffers} {v : Verdict} (d : Decided t b b′ v) where
-  counts-agree : v .counts .shared ≡ sharedOf (take (v .counts .«output_x») (b′ .output-x)) (take (v .counts .«output_y») (b′ .output-y))
-  unfolding sharedOf
-  counts-agree = go (zero-or-one (v .outcome))
-    where
-      go : (verdictOf (v .outcome) ≡ 0) ⊎ (verdictOf (v .outcome) ≡ 1)
-          → v .counts .shared ≡ sharedOf (take (v .counts .«output_x») (b′ .output-x)) (take (v .counts .«output_y») (b′ .output-y))
-      go (inl e) = rw (d .unchanged e .1)
-      go (inr e) = let show = d .shows e in rw (show .counts, show .filled) (simp front-put)
-
-  counts-below : verdictOf (v .outcome) ≢ 0 → (v .counts .shared < v .counts .«output_x») ⊎ (v .counts .shared < v .counts .«output_y»)
-  counts-below split = go (zero-or-one (v .outcome))
-    where
-      go : (verdictOf (v .outcome) ≡ 0) ⊎ (verdictOf (v .outcome) ≡ 1)
-          → (v .counts .shared < v .counts .«output_x») ⊎ (v .counts .shared < v .counts .«output_y»)
-      go (inl e) = absurd (split e)
-      go (inr e) =
-          let show = d .shows e in
-          rw (show .counts) (how-far (show .lists .output-x) (show .lists .output-y) .below (show .shown .differ))
-
 -- the numbers of an answer
-numbers-there : (a : List ℕ) (v : Verdict) (P : ℕ → ℕ → ℕ → ℕ → Type 0) → P (verdictOf (v .outcome)) (v .counts .«output_x») (v .counts .«output_y») (v .counts .shared)
+numbers-there : (a : List ℕ) (v : Verdict) (P : ℕ → ℕ → ℕ → ℕ → Type 0)
+    → P (verdictOf (v .outcome)) (v .counts .«output_x») (v .counts .«output_y») (v .counts .shared)
     → let a′ = put a 0 (numbersOf v) in P (getD a′ 0 0) (getD a′ 5 0) (getD a′ 6 0) (getD a′ 7 0)
 unfolding put numbersOf
 numbers-there a v P p = p
@@ -117,8 +95,8 @@ module _ {h a a′ : List ℕ} {b b′ : Buffers} {r : ℕ} (g : VerdictGiven h 
       rw (decides .given .answered z)
       record {
         shared =
-            numbers-there a v (λ s x y k. k ≡ sharedOf (take x (b′ .output-x)) (take y (b′ .output-y))) (counts-agree d);
-        below = numbers-there a v (λ s x y k. s ≢ 0 → (k < x) ⊎ (k < y)) (counts-below d);
+            numbers-there a v (λ s x y k. k ≡ sharedOf (take x (b′ .output-x)) (take y (b′ .output-y))) (decided-shared d);
+        below = numbers-there a v (λ s x y k. s ≢ 0 → (k < x) ⊎ (k < y)) (decided-below d);
       }
 
   -- the first two

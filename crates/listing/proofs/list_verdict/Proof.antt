@@ -83,7 +83,8 @@ returns : tie.Need-returns
 returns c =
     let put = c .before .before .before in
     let s = entry put .args in
-    single-put (s .split) (s .u) (now (s .w)) (now (s .a)) (now (s .b)) (now (s .x)) (now (s .y)) (s .shared) (put .put-record .ensures) (not-true _ (c .if1 .taken))
+    single-put (s .split) (s .u) (now (s .w)) (now (s .a)) (now (s .b)) (now (s .x)) (now (s .y)) (s .shared) (put .put-record .ensures)
+    (not-true _ (c .if1 .taken))
 
 put-counted-bytes-requires : tie.Need-put-counted-bytes-requires
 put-counted-bytes-requires c κs = ((omega arith, omega arith), part-room (none-put (c .before)) (omega arith))
