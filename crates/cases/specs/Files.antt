@@ -108,8 +108,8 @@ listingP = lines ("V     1     1" ∷ "W     1     1" ∷ "A     1     0" ∷ "B
 abbrev pub PrintedP : Type 0
 PrintedP = (out₀ out : List ℕ) (n : ℕ) → VerdictReport fileP out₀ out n → Puts out₀ 0 listingP out n
 
--- "fields six wide": listings of a single table with u = 6, of a split one whose outputs are long, of a refusal, and of a translation; and the size of table
--- P's file
+-- "fields six wide": listings of a single table with u = 6, of a split one with the largest number in `D` (whatever its lists are), of a refusal, and of a
+-- translation; and the size of table P's file
 pub record Listings : Type 0 where
   pub single : verdictListing false 6 [] [] [] [] [] 0 ≡ lines ("V     0     6" ∷ [])
   -- document 02, job 8: "A split listing, and no other, gains a last record `D` with this number"

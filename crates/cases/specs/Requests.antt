@@ -4,7 +4,7 @@ use mathlib.Core.Path.{_≡_}
 use mathlib.Core.Bool.{true}
 use mathlib.Core.List.{List, [], _∷_}
 use Prim.Native.Nat.{ℕ}
-use lib.ListN.{replicate, take}
+use lib.ListN.{replicate}
 use Rattle.words.specs.Difference.{differenceOf, carriedOf}
 use Rattle.transducer.specs.Blank.{blankTransducer}
 use Rattle.transducer.specs.Lines.{transducerOf}
@@ -13,7 +13,7 @@ use Rattle.transducer.specs.declared.Transducer.{Transducer}
 use Rattle.wordtest.specs.Numbers as word
 use Rattle.wordtest.specs.Tested.{Tested}
 use Rattle.wordtest.specs.declared.Acceptance.{Acceptance}
-use Rattle.witness.specs.Showing.{Buffers}
+use Rattle.witness.specs.Showing.{Buffers, xIn, yIn}
 use Rattle.functionality.specs.Decided.{fullOf, Decided}
 use Rattle.functionality.specs.declared.Verdict.{Verdict}
 use Rattle.series.specs.Join as join
@@ -52,7 +52,7 @@ RequestHolds (not-edited t e number) = (r : Edited) → edit.EditedBy t e r → 
 RequestHolds (carries x y n) = carriedOf (differenceOf x y) ≡ n
 RequestHolds (agree t x y n) =
     (b b′ : Buffers) (r : Verdict) → fullOf b ≡ true → Decided t b b′ r
-    → (take (r .counts .«output_x») (b′ .output-x) ≡ x) × (take (r .counts .«output_y») (b′ .output-y) ≡ y) × (r .counts .shared ≡ n)
+    → (xIn b′ (r .counts) ≡ x) × (yIn b′ (r .counts) ≡ y) × (r .counts .shared ≡ n)
 
 -- ---- tables
 
