@@ -424,7 +424,7 @@ YOTSELINA_CALL yotselina_join(const uint8_t *first, size_t first_length,
                               uint8_t *result, size_t result_length);
 
 /*
- * yotselina_difference - where two lists of codes part
+ * yotselina_difference - how two lists of codes compare
  *
  *   x, x_length    the first list, of any length and any bytes
  *   y, y_length    the second list

@@ -51,8 +51,8 @@ pub fn list_verdict(
     let path_b = writer::put_counted(out, path_a, LISTING_COLUMNS, b'B', b);
     let output_x = writer::put_counted_bytes(out, path_b, LISTING_COLUMNS, b'X', x);
     let output_y = writer::put_counted_bytes(out, output_x, LISTING_COLUMNS, b'Y', y);
-    let agreement = [shared];
-    writer::put_record(out, output_y, LISTING_COLUMNS, b'D', &agreement)
+    let in_common = [shared];
+    writer::put_record(out, output_y, LISTING_COLUMNS, b'D', &in_common)
 }
 
 // The listing of a refusal, from the front of `out`: its number and the record number. Returns its length.

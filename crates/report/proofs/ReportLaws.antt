@@ -16,7 +16,7 @@ use Rattle.translator.specs.Words.{refusalOf}
 use Rattle.translator.specs.Translated.{Outcome, Translated}
 use Rattle.translator.specs.declared.Translation.{Translation}
 use Rattle.translator.proofs.TranslationLaws.{refused-length}
-use Rattle.witness.specs.Showing.{Buffers, putAll, countsOf}
+use Rattle.witness.specs.Showing.{Buffers, putAll, countsOf, xIn, yIn}
 use Rattle.witness.specs.declared.Counts.{Counts}
 use Rattle.functionality.specs.Decided.{verdictOf, noCounts, Decided}
 use Rattle.functionality.specs.declared.Verdict.{Verdict}
@@ -127,8 +127,7 @@ module _ (r : Judgement) (b : Buffers) where
   pub verdict-listed : r .number ≡ 0
       → judgementListing r b
       ≡ verdictListing (r .split) (r .useful) (take (r .counts .word) (b .word)) (take (r .counts .«path_a») (b .path-a))
-      (take (r .counts .«path_b») (b .path-b)) (take (r .counts .«output_x») (b .output-x)) (take (r .counts .«output_y») (b .output-y))
-      (r .counts .shared)
+      (take (r .counts .«path_b») (b .path-b)) (xIn b (r .counts)) (yIn b (r .counts)) (r .counts .shared)
   unfolding judgementListing
   verdict-listed k = rw (eq-eqb _ _ k)
 
@@ -147,8 +146,7 @@ module _ {f out₀ out : List ℕ} {b : Buffers} {r : Judgement} {n : ℕ} (h : 
   pub verdict-report : r .number ≡ 0 → Sized b
       → Puts out₀ 0
       (verdictListing (r .split) (r .useful) (take (r .counts .word) (b .word)) (take (r .counts .«path_a») (b .path-a))
-      (take (r .counts .«path_b») (b .path-b)) (take (r .counts .«output_x») (b .output-x)) (take (r .counts .«output_y») (b .output-y))
-      (r .counts .shared))
+      (take (r .counts .«path_b») (b .path-b)) (xIn b (r .counts)) (yIn b (r .counts)) (r .counts .shared))
       out n
       → VerdictReport f out₀ out n
   verdict-report k s p =

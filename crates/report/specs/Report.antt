@@ -7,7 +7,7 @@ use lib.ListN.{length, take, replicate}
 use Rattle.buffers.specs.Put.{Puts}
 use Rattle.records.specs.Letters.{mostBytes}
 use Rattle.wordsearch.specs.Limits.{mostWord}
-use Rattle.witness.specs.Showing.{Buffers}
+use Rattle.witness.specs.Showing.{Buffers, xIn, yIn}
 use Rattle.engine.specs.Engine.{Judged, FileTranslated}
 use Rattle.engine.specs.declared.Judgement.{Judgement}
 use Rattle.engine.specs.declared.FileTranslation.{FileTranslation}
@@ -38,8 +38,7 @@ unfoldable pub judgementListing : Judgement → Buffers → List ℕ
 judgementListing r b =
     cond (eqb (r .number) 0)
     (verdictListing (r .split) (r .useful) (take (r .counts .word) (b .word)) (take (r .counts .«path_a») (b .path-a))
-    (take (r .counts .«path_b») (b .path-b)) (take (r .counts .«output_x») (b .output-x)) (take (r .counts .«output_y») (b .output-y))
-    (r .counts .shared))
+    (take (r .counts .«path_b») (b .path-b)) (xIn b (r .counts)) (yIn b (r .counts)) (r .counts .shared))
     (refusalListing (r .number) (r .«record»))
 
 -- from the bytes f of a file the buffer that held out₀ holds out: the listing of a judgement of f stands at its front, its n bytes fit, and the

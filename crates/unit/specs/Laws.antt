@@ -93,7 +93,7 @@ pub record SameVerdict (b₁ b₂ : Buffers) (a₁ a₂ : List ℕ) (r₁ r₂ :
 pub record OutputsAgree (b′ : Buffers) (a′ : List ℕ) : Type 0 where
   -- the last number is how many codes they have in common at the beginning
   pub shared : getD a′ 7 0 ≡ sharedOf (take (getD a′ 5 0) (b′ .output-x)) (take (getD a′ 6 0) (b′ .output-y))
-  -- those of a witness are longer, the one or the other
+  -- of a witness at least one of the two is longer than that
   pub below : getD a′ 0 0 ≢ 0 → (getD a′ 7 0 < getD a′ 5 0) ⊎ (getD a′ 7 0 < getD a′ 6 0)
 
 -- a translation is done, and its output is the word `output`: the length stands in the answer list, the codes at the front of the buffer

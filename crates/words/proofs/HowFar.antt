@@ -55,7 +55,7 @@ only-there {x} {y} {n} {m} p q = go (ltb n m) refl (ltb m n) refl
 
 -- ---- a clash
 
--- the number of a clash; of any other comparison nothing can be said
+-- the comparison is a clash, and f holds of its number
 abbrev Says : Comparison → (ℕ → Type 0) → Type 0
 Says Level f = ⊥
 Says FirstAhead f = ⊥

@@ -25,12 +25,12 @@ pub record Agreeing (x y : List ℕ) (n : ℕ) : Type 0 where
   pub in-y : n ≤ length y
   pub same : take n x ≡ take n y
 
--- and the code after them is another one in x than in y, where both have one
+-- they agree in n codes, and no further: the next code is another one in x than in y, where both have one
 pub record Parting (x y : List ℕ) (n : ℕ) : Type 0 where
   pub agreeing : Agreeing x y n
   pub parts : n < length x → n < length y → getD x n 0 ≢ getD y n 0
 
--- both have one
+-- they part at n, and both have a code there
 pub record Clashing (x y : List ℕ) (n : ℕ) : Type 0 where
   pub parting : Parting x y n
   pub x-goes-on : n < length x

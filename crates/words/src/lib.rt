@@ -1,6 +1,6 @@
 // The difference of two words (document 01, "The difference of two outputs"): what they have in common at the beginning is stripped,
-// and the rests tell how the two compare and what of the longer one is unmatched. The contracts cite `differenceOf` and `unmatchedOf`
-// of specs/Difference.antt. specs/Laws.antt says that a common beginning can be left out, and what the numbers say; other laws are in proofs/.
+// and the rests tell how the two compare and what of the longer one is unmatched. The contracts cite specs/Difference.antt. specs/Laws.antt says that a
+// common beginning can be left out, and how far two words agree; other laws are in proofs/.
 ghost use mathlib.Core.Path.{_≡_};
 ghost use denote.Ref.{ptr};
 ghost use Rattle.words.specs.Difference.{sharedOf, differenceOf, carriedOf, unmatchedOf, shownAt};

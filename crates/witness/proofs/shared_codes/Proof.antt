@@ -1,4 +1,4 @@
--- `agreement` meets its contract: what two words have in common is no longer than either. Assumes nothing.
+-- `shared_codes` meets its contract: what two words have in common is no longer than either. Assumes nothing.
 use Prim.Native.Nat.{ℕ, _≤_}
 use mathlib.Core.List.{List}
 use mathlib.Core.Path.{_≡_}
@@ -9,8 +9,8 @@ use lib.ListN.{length, take}
 use lib.Seq.{length-take-le}
 use Rattle.words.specs.Difference.{sharedOf}
 use Rattle.words.proofs.HowFar.{parting}
-use Rattle.witness.proofs.agreement.Statement.{statement}
-use Rattle.witness.proofs.agreement.Tie as tie
+use Rattle.witness.proofs.shared_codes.Statement.{statement}
+use Rattle.witness.proofs.shared_codes.Tie as tie
 
 -- the entry, once `shared` has returned
 abbrev start : tie.After-shared → tie.Start
@@ -32,8 +32,8 @@ cast-result c =
 returns : tie.Need-returns
 returns c = known c
 
-pub agreement-spec : {M : Type 1} → statement M
-agreement-spec =
+pub shared-codes-spec : {M : Type 1} → statement M
+shared-codes-spec =
     tie.close
     (tie.spec
     (λ c. search needs)
