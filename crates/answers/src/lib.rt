@@ -1,5 +1,7 @@
 // What the exported functions of `unit` return, and how they put numbers, flags and tables into the lists that are lent. The contracts cite
 // specs/Answers.antt.
+#![tactic(auto)]
+
 ghost use Rattle.std.specs.Prelude.{◌≡◌, map, ◌≤◌, length};
 ghost use Rattle.buffers.specs.Put.{put};
 ghost use Rattle.transducer.specs.Valid.{Shaped};

@@ -1,5 +1,7 @@
 // Bytes put into a buffer, one part after the other: the one way in which the crates above say what a buffer holds. The contracts cite `Room` and `Puts`
 // of specs/Put.antt; proofs/Parts.antt has the one theory of a loop, or a row of calls, that puts one part behind the other.
+#![tactic(auto)]
+
 ghost use Rattle.std.specs.Prelude.{[], ◌∷◌};
 ghost use Rattle.buffers.specs.Put.{Room, Puts};
 

@@ -1,5 +1,7 @@
 // For each state the states that transitions which read nothing and write nothing lead to from it, as one list of flags: the flag of q and p stands at
 // the place 32 q + p. The contracts cite specs/Closure.antt.
+#![tactic(auto)]
+
 ghost use Rattle.std.specs.Prelude.{◌≡◌, ℕ, ◌<◌, length, get_or};
 ghost use Rattle.transducer.specs.Limits.{most_states};
 ghost use Rattle.product.specs.Machine.{count_of};

@@ -1,6 +1,8 @@
 // What a unit runs. `Demand3` of specs/Demand3.antt is demand 3, whole, as one statement about every file that the reader takes, every transducer that is
 // accepted, and all that meets the contracts below or those of the functionality test and the translator; `demand_3` of proofs/Demand3.antt proves it. The
 // contracts cite specs/Engine.antt.
+#![tactic(auto)]
+
 ghost use Rattle.witness.specs.Showing.{buffers_of};
 ghost use Rattle.engine.specs.Engine.{Judged, FileTranslated};
 
@@ -8,7 +10,7 @@ use witness::Counts;
 
 // What became of a file that is judged: document 01's refusal number (0: none) and record number; whether the table is split; u; and how many
 // items of a witness stand in each buffer and how many codes its outputs have in common, all 0 unless it is split.
-#[derive(Drop)]
+#[derive(Clone, Copy)]
 pub struct Judgement {
     pub number: u16,
     pub record: u16,
@@ -18,7 +20,7 @@ pub struct Judgement {
 }
 
 // What became of a file and an input word: the refusal number (0: none), the record number, and how many codes are written.
-#[derive(Drop)]
+#[derive(Clone, Copy)]
 pub struct FileTranslation {
     pub number: u16,
     pub record: u16,

@@ -1,6 +1,8 @@
 // The functionality test: an equation at each step between useful pairs, and where one fails a walk whose two sides have different outputs. If none
 // fails the transducer is functional (proofs/Equations.antt). The contracts of `search` and `walk` cite specs/Tests.antt, those of their loops
 // specs/Loops.antt.
+#![tactic(auto)]
+
 ghost use Rattle.std.specs.Prelude.{false, ◌≢◌, ◌≡◌, ◌<◌, length, get_or};
 ghost use Rattle.product.specs.Machine.{ImageOf};
 ghost use Rattle.product.specs.Numbers.{most_pairs};
@@ -27,7 +29,7 @@ const UNEVEN: u32 = FINE + 1;
 
 // Where a test fails: the pair, the label of a step at which the equation does not hold, and the pair to which it leads. The label is FINE where none
 // fails, and UNEVEN where the pair is one of start states whose two sides do not write equally much.
-#[derive(Drop)]
+#[derive(Clone, Copy)]
 pub struct Failure {
     pub from: usize,
     pub label: u32,

@@ -11,7 +11,7 @@ pub const MIDDLE: usize = PAIRS - 1;
 const BEHIND: usize = MIDDLE + 1;
 
 // Where a walk stands in a list of labels: from the place `start` up to the place `end`.
-#[derive(Drop)]
+#[derive(Clone, Copy)]
 pub struct Place {
     pub start: usize,
     pub end: usize,

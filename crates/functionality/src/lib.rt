@@ -1,5 +1,7 @@
 // The functionality test (document 01: the verdict): whether each input word has one output at most, and if not, a word with two. Its contract is
 // `Decided` of specs/Decided.antt. What is tested, and why it is enough, is in the crate `equations`.
+#![tactic(auto)]
+
 ghost use Rattle.std.specs.Prelude.{◌≡◌, false, true};
 ghost use Rattle.transducer.specs.Accepted.{accepted_of};
 ghost use Rattle.product.specs.Machine.{ImageOf};
@@ -16,7 +18,7 @@ use transducer::{Transducer, refusals};
 use witness::{CODES, Counts, STEPS};
 
 // Document 01's verdict, single or split, or its refusal.
-#[derive(Drop)]
+#[derive(Clone, Copy)]
 pub enum Outcome {
     Functional,
     NotFunctional,
@@ -52,7 +54,7 @@ impl Outcome {
 
 // The outcome; how many useful pairs there are (document 01: u); and how many items of a witness stand in each buffer and how many codes its outputs have in
 // common, all 0 unless the transducer is not functional.
-#[derive(Drop)]
+#[derive(Clone, Copy)]
 pub struct Verdict {
     pub outcome: Outcome,
     pub useful: u16,

@@ -1,6 +1,8 @@
 // What the programs print (document 01, "Writer and programs"), written into a buffer: a verdict, a refusal or a translation, as records of
 // `records::writer`. The listings are definitions of specs/Listing.antt; `Puts` of `buffers` says that one stands in the buffer from a place, that the other
 // places hold what they held, and which place is behind it.
+#![tactic(auto)]
+
 ghost use Rattle.std.specs.Prelude.{◌≤◌, length};
 ghost use Rattle.buffers.specs.Put.{Puts};
 ghost use Rattle.listing.specs.Listing.{verdict_listing, refusal_listing, translation_listing, pair_bytes, VerdictRoom, TranslationRoom};

@@ -2,6 +2,8 @@
 // difference of two outputs"). The codes 1 to 250 stand in turn in both lists; then the bytes that are no output codes, 0 and 251 to 255.
 // A line for each comparison: what is compared, how it comes out, the number that it carries, how many codes the unmatched end has, and its first and its
 // last code, or for each a dash.
+#![tactic(auto)]
+
 ghost use Rattle.std.specs.Prelude.{◌≡◌, ◌+◌, ◌≤◌, ◌<◌, length};
 
 use libc::STDOUT_FILENO;

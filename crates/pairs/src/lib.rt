@@ -1,6 +1,8 @@
 // Useful pairs of states (document 01, "Useful states and useful pairs"), and the ways into and out of them. The contracts cite
 // specs/UsefulPairs.antt: `UsefulPairsOf`, what `useful_pairs` answers; and specs/Ways.antt: `WaysOut`,
 // `Discovered` and `WayIn`, what `ways_out` and `ways_in` leave. specs/Promises.antt has what else the verdict may know of the pairs.
+#![tactic(auto)]
+
 ghost use Rattle.std.specs.Prelude.{true, false, ◌≡◌, ℕ, ◌-◌, ◌≤◌, ◌<◌, length, get_or};
 ghost use Rattle.worklist.specs.Lists.{lists};
 ghost use Rattle.worklist.specs.Search.{Blank};
@@ -19,20 +21,20 @@ use product::{machine, search};
 use transducer::{Transducer, limits, refusals};
 
 // A set of pairs: member[32 p + q] says whether (p, q) is in it.
-#[derive(Drop)]
+#[derive(Clone, Copy)]
 pub struct PairSet {
     pub member: [bool; PAIRS],
 }
 
 // Found, or the refusal of a value that is not accepted.
-#[derive(Drop)]
+#[derive(Clone, Copy)]
 pub enum Outcome {
     Found,
     Invalid,
 }
 
 // The useful pairs, and how many there are (document 01: u).
-#[derive(Drop)]
+#[derive(Clone, Copy)]
 pub struct UsefulPairs {
     pub outcome: Outcome,
     pub set: PairSet,

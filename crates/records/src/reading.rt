@@ -12,7 +12,7 @@ use transducer::{limits, refusals};
 pub const MOST_FIELDS: usize = 4 + limits::OUTPUTS;
 
 // What a field must hold: a number from `low` to `high`, and at least `least` where it must rise.
-#[derive(Drop)]
+#[derive(Clone, Copy)]
 pub struct Range {
     pub low: u16,
     pub high: u16,
@@ -20,14 +20,14 @@ pub struct Range {
 }
 
 // A number that was read, with the refusal's number, 0 where there is none. A number that was refused is given the least value of its range.
-#[derive(Drop)]
+#[derive(Clone, Copy)]
 pub struct Number {
     pub fault: u8,
     pub value: u16,
 }
 
 // A record that was read: the first refusal's number, the place past the record, and the numbers of its fields.
-#[derive(Drop)]
+#[derive(Clone, Copy)]
 pub struct Record {
     pub fault: u8,
     pub next: usize,

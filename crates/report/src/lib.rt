@@ -2,6 +2,8 @@
 // translates an input word by one. Both take arrays of exactly the sizes that document 01 has, with a count of what was read, and put the listing into
 // an array that any listing fits. The contracts are the records of specs/Report.antt; what they come to, said of the file and the word alone, is in
 // specs/Printed.antt.
+#![tactic(auto)]
+
 ghost use Rattle.std.specs.Prelude.{◌≤◌, take};
 ghost use Rattle.report.specs.Report.{read_bytes, read_codes, VerdictReport, TranslationReport};
 

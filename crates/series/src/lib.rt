@@ -1,5 +1,7 @@
 // Two transducers in series (document 02, job 3): what the first writes the second reads. The contract of `join` cites `JoinedOf` of
 // specs/Join.antt; that the result's relation is the composition of the two is `InSeries` of specs/Composition.antt.
+#![tactic(auto)]
+
 ghost use Rattle.std.specs.Prelude.{◌≡◌, true, false, length};
 ghost use Rattle.transducer.specs.Valid.{Valid};
 ghost use Rattle.product.specs.Machine.{ImageOf};
@@ -18,7 +20,7 @@ mod listing;
 mod table;
 
 // Joined, or the refusal.
-#[derive(Drop)]
+#[derive(Clone, Copy)]
 pub enum Outcome {
     Made,
     Invalid,
@@ -28,7 +30,7 @@ pub enum Outcome {
 }
 
 // The outcome, and the transducer that was made: with a refusal, and where there is no joined pair, the blank one.
-#[derive(Drop)]
+#[derive(Clone, Copy)]
 pub struct Joined {
     pub outcome: Outcome,
     pub table: Transducer,

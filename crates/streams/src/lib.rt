@@ -1,18 +1,20 @@
 // Standard input, files and standard output as the programs use them: a read that fails is told from the end of the input, a write that fails is not
 // dropped, and either is reported on standard error. The contracts cite specs/Streams.antt.
+#![tactic(auto)]
+
 ghost use Rattle.std.specs.Prelude.{◌≡◌, ◌≤◌, length};
 ghost use Rattle.streams.specs.declared.Input.{Input};
 ghost use Rattle.streams.specs.Streams.{Told, ReadOn, StepOf};
 
 // What came of reading: how many bytes stand at the front of the buffer, or that a read failed.
-#[derive(Drop)]
+#[derive(Clone, Copy)]
 pub enum Input {
     Got(usize),
     Failed,
 }
 
 // What came of one read.
-#[derive(Drop)]
+#[derive(Clone, Copy)]
 enum Step {
     More(usize),
     Ended,

@@ -7,7 +7,7 @@ use records::reading::Range;
 use transducer::limits;
 
 // The counts that were read, with the refusal's number, 0 where there is none.
-#[derive(Drop)]
+#[derive(Clone, Copy)]
 pub struct Header {
     pub fault: u8,
     pub states: u16,

@@ -1,6 +1,8 @@
 // The reader of a table file (document 01, "The file"). It checks strictly from left to right, and a refusal leaves the blank transducer.
 // The contract of `read` cites specs/Reader.antt, where the whole format is one definition; specs/Outcome.antt gives each outcome its number.
 // A refused check does not end the reading of a record or of a file: the reading goes on, and of all refusals the first one counts.
+#![tactic(auto)]
+
 ghost use Rattle.std.specs.Prelude.{◌≡◌};
 ghost use Rattle.tablereader.specs.Outcome.{number_of, record_of, outcome_for, ◌▸◌};
 ghost use Rattle.tablereader.specs.Reader.{end_fault_of, read_of};
@@ -13,7 +15,7 @@ pub mod transitions;
 use transducer::{StateSet, Transducer, refusals};
 
 // What became of a file: it was taken, or it was refused at the record whose number is given. Records count from 0 for `T`.
-#[derive(Drop)]
+#[derive(Clone, Copy)]
 pub enum Outcome {
     Taken,
     Ended(u16),
@@ -25,7 +27,7 @@ pub enum Outcome {
 }
 
 // The outcome, and the transducer of the file, or the blank one where it was refused.
-#[derive(Drop)]
+#[derive(Clone, Copy)]
 pub struct Reading {
     pub outcome: Outcome,
     pub table: Transducer,

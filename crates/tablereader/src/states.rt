@@ -11,7 +11,7 @@ use records::reading::{Number, Range};
 use transducer::StateSet;
 
 // The states that were read, and whether a record was refused.
-#[derive(Drop)]
+#[derive(Clone, Copy)]
 pub struct States {
     pub outcome: Outcome,
     pub set: StateSet,

@@ -12,7 +12,7 @@ use records::reading::{Range, Record};
 use transducer::{InputCode, OutputCode, Transition, limits};
 
 // The transitions that were read, whether a record was refused, and the place past the last record.
-#[derive(Drop)]
+#[derive(Clone, Copy)]
 pub struct Transitions {
     pub outcome: Outcome,
     pub next: usize,

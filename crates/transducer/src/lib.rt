@@ -1,6 +1,8 @@
 // A finite transducer (document 01: a table) as a value: its types, its sets of states, the blank transducer, the test of its rules, and the test of
 // a word's bytes. The contracts cite specs/StateSet.antt, specs/Valid.antt and specs/Codes.antt. What a transducer means, its paths and its relation, is
 // in specs/Paths.antt and the files after it, which the crates above cite.
+#![tactic(auto)]
+
 ghost use Rattle.std.specs.Prelude.{◌≡◌};
 ghost use Rattle.transducer.specs.StateSet.{has, with_state, no_states};
 ghost use Rattle.transducer.specs.Transition.{as_input};
@@ -12,15 +14,15 @@ pub mod refusals;
 pub mod validity;
 
 // A code of the input alphabet, 1 to limits::CODE; in a transition 0 means that it reads nothing.
-#[derive(Drop)]
+#[derive(Clone, Copy)]
 pub struct InputCode(pub u8);
 
 // A code of the output alphabet, 1 to limits::CODE.
-#[derive(Drop)]
+#[derive(Clone, Copy)]
 pub struct OutputCode(pub u8);
 
 // A transition (document 01: a line): it leaves the state `from`, enters `to`, reads `input` and writes the first `count` codes of `output`.
-#[derive(Drop)]
+#[derive(Clone, Copy)]
 pub struct Transition {
     pub from: u8,
     pub to: u8,
@@ -30,13 +32,13 @@ pub struct Transition {
 }
 
 // A set of states: member[q] says whether q is in it.
-#[derive(Drop)]
+#[derive(Clone, Copy)]
 pub struct StateSet {
     pub member: [bool; limits::STATES],
 }
 
 // A transducer (document 01: a table) with the states 0 to states - 1 and the first `count` of `transitions`. It keeps the set of its useful states.
-#[derive(Drop)]
+#[derive(Clone, Copy)]
 pub struct Transducer {
     pub states: u8,
     pub starts: StateSet,

@@ -1,6 +1,8 @@
 // The translating program (document 01, "Writer and programs"): the first `READ_CODES` bytes of standard input are an input word, one code a byte,
 // and the first `READ_BYTES` bytes of the file `table` are a table file; the listing of the translation is printed. Where either can't be read to its end
 // nothing is printed, and the failure is reported on standard error.
+#![tactic(auto)]
+
 ghost use Rattle.streams.specs.Streams.{Told};
 
 use libc::{STDIN_FILENO, STDOUT_FILENO};

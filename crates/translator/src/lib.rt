@@ -1,6 +1,8 @@
 // The translator: it writes the output of an accepting path that reads a given input word (document 01, "The translator"). Its contract is
 // specs/Translated.antt. The path comes from the search of `wordsearch`, last transition first, so that the output is measured on one way back
 // along the search's parents and written, from its end to its beginning, on another.
+#![tactic(auto)]
+
 ghost use Rattle.std.specs.Prelude.{◌≡◌, ◌≤◌, ◌<◌, length};
 ghost use Rattle.buffers.specs.Put.{put};
 ghost use Rattle.transducer.specs.Transition.{bytes_of};
@@ -24,7 +26,7 @@ const SHORT: usize = 32;
 const SHORT_NODES: usize = SHORT * transducer::limits::STATES;
 
 // What a translation answers; specs/Numbers.antt gives document 01's number of each.
-#[derive(Drop)]
+#[derive(Clone, Copy)]
 pub enum Translation {
     Written(usize),
     Invalid,

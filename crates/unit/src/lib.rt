@@ -1,6 +1,8 @@
 // The library that a unit links: the documents' calls for C, over lists and numbers only. A table is lent as memory in which it is held (crate `held`).
 // Each call returns 0, or its refusal; a refusal changes no list. A list of fixed size that is too short is refused before anything else. The contracts
 // cite specs/Calls.antt; specs/Laws.antt says what they determine.
+#![tactic(auto)]
+
 ghost use Rattle.std.specs.Prelude.{◌≡◌};
 ghost use Rattle.witness.specs.Showing.{buffers_of};
 ghost use Rattle.answers.specs.Answers.{file_code};

@@ -2,6 +2,8 @@
 // value that is made. A state is useful exactly when it is reached from a start state by transitions and from a final state against them: two sets, which
 // `sets` works out as numbers. The contract of `useful_states` cites specs/UsefulStates.antt; those of `accepted` and `keep` cite definitions of the crate
 // `transducer`.
+#![tactic(auto)]
+
 ghost use Rattle.std.specs.Prelude.{◌≡◌};
 ghost use Rattle.transducer.specs.Valid.{Valid};
 ghost use Rattle.transducer.specs.Lines.{useful_in, keeping};
@@ -13,7 +15,7 @@ use transducer::{StateSet, Transducer, limits, refusals, validity};
 mod sets;
 
 // How `useful_states` ends: the set was found, or the value is not accepted.
-#[derive(Drop)]
+#[derive(Clone, Copy)]
 pub enum Outcome {
     Found,
     Invalid,
@@ -32,7 +34,7 @@ impl Outcome {
 }
 
 // The set of useful states; empty where the value is not accepted.
-#[derive(Drop)]
+#[derive(Clone, Copy)]
 pub struct UsefulStates {
     pub outcome: Outcome,
     pub states: StateSet,

@@ -1,5 +1,7 @@
 // The verdict program (document 01, "Writer and programs"): the first `READ_BYTES` bytes of standard input are judged as a table file, and the listing is
 // printed. Where the input can't be read to its end nothing is printed, and the failure is reported on standard error.
+#![tactic(auto)]
+
 use libc::{STDIN_FILENO, STDOUT_FILENO};
 use listing::VERDICT_BYTES;
 use report::READ_BYTES;

@@ -4,6 +4,8 @@
 // the next code lead to. Only two rows are alive, 8,448 bytes. The transducer is lent as three lists: its machine (`product::machine`), what its
 // transitions write (`outputs`), and for each state those that transitions which read and write nothing lead to (`closure`): with a state these are
 // marked at once.
+#![tactic(auto)]
+
 ghost use Rattle.std.specs.Prelude.{◌≡◌, true, ◌↔◌, ◌+◌, ◌≤◌, ◌<◌, length};
 ghost use Rattle.transducer.specs.Limits.{most_states};
 ghost use Rattle.product.specs.Machine.{count_of, from_of};

@@ -1,11 +1,13 @@
 // The difference of two words (document 01, "The difference of two outputs"): what they have in common at the beginning is stripped,
 // and the rests tell how the two compare and what of the longer one is unmatched. The contracts cite specs/Difference.antt. specs/Laws.antt says that a
 // common beginning can be left out, and how far two words agree; other laws are in proofs/.
+#![tactic(auto)]
+
 ghost use Rattle.std.specs.Prelude.{◌≡◌};
 ghost use Rattle.words.specs.Difference.{shared_of, difference_of, carried_of, unmatched_of, shown_at};
 
 // How two words compare once their common beginning is stripped.
-#[derive(Drop)]
+#[derive(Clone, Copy)]
 pub enum Comparison {
     // Nothing is left.
     Level,

@@ -1,6 +1,8 @@
 // The search for an accepting path of a transducer that reads a given input word. A node is a position in the word and a state
 // (specs/Nodes.antt); the worklist search over the nodes begins at the start states, before the word, and stops at the first final state that
 // it meets at the word's end. It keeps of each node its parent and the transition between them, which spell the path (specs/Answers.antt).
+#![tactic(auto)]
+
 ghost use Rattle.std.specs.Prelude.{◌≡◌, ◌&&◌, ◌<◌, ◌≤◌, eqb, length};
 ghost use Rattle.transducer.specs.Limits.{most_states};
 ghost use Rattle.transducer.specs.StateSet.{In, has};

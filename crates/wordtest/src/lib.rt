@@ -1,5 +1,7 @@
 // The word test (document 02, job 1): whether an accepting path reads a given input word and writes a given output word. Its contract is
 // specs/Tested.antt. The rows of `wordrows` follow one another, a row for each position in the input word; two are alive at a time.
+#![tactic(auto)]
+
 ghost use Rattle.std.specs.Prelude.{◌≡◌, true, ◌↔◌, ◌≤◌, length};
 ghost use Rattle.transducer.specs.Codes.{all_codes};
 ghost use Rattle.transducer.specs.Transition.{word_of, output_word_of};
@@ -16,7 +18,7 @@ use transducer::{StateSet, Transducer, codes, refusals};
 use wordrows::limits;
 
 // What the test answers; specs/Numbers.antt gives the documents' number of each.
-#[derive(Drop)]
+#[derive(Clone, Copy)]
 pub enum Acceptance {
     Yes,
     No,

@@ -2,6 +2,8 @@
 // and C holds no value. The last are made by an edit and by a join.
 // A line for each value: its name, the number that each call answers, and what the look shows, a flag for each state. The calls, in this order: write,
 // verdict, translate, word test, join before and behind a table that is right, append, remove, useful states, useful pairs.
+#![tactic(auto)]
+
 use libc::STDOUT_FILENO;
 use transducer::{StateSet, Transducer, Transition, limits};
 
