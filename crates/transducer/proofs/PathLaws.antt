@@ -4,6 +4,7 @@ use mathlib.Core.List.{List, [], ◌∷◌, ◌++◌, append_assoc}
 use Prim.Native.Nat.{ℕ, zero, suc, ◌<◌}
 use native.Mathlib.Omega.{arith}
 use lib.ListN.{length, get_or}
+use Rattle.transducer.specs.Transition.{at}
 use Rattle.transducer.specs.Paths.{Path, here, step, reads, writes, output_to}
 use Rattle.transducer.specs.declared.Transducer.{Transducer}
 
@@ -47,7 +48,7 @@ module _ {t : Transducer} where
   -- a path can be cut anywhere
   pub path_cut : {p r : ℕ} (π : List ℕ) {ρ : List ℕ} → Path t p (π ++ ρ) r → PathCut t p π ρ r
   path_cut {p} [] h = record { middle = p; front = here refl; back = h }
-  path_cut (l ∷ π) (step a b h) = let c = path_cut π h in record { middle = c.middle; front = step a b c.front; back = c.back }
+  path_cut {p = p} {r = r} (l ∷ π) {ρ = ρ} (step a b h) = let c = path_cut {p = (at t l).to} π h in record { middle = c.middle; front = step a b c.front; back = c.back }
 
   -- every transition number of a path is below the count
   pub path_below : {p q : ℕ} {π : List ℕ} → Path t p π q → (i : ℕ) → i < length π → get_or π i 0 < t.count
