@@ -1,6 +1,5 @@
 use mathlib.Core.Path.{sym, ◌∙◌}
 use Rattle.std.proofs.Common.{arith}
-use borrow.Author.Tests.{not-true, not-false}
 use Rattle.transducer.specs.Limits.{most_transitions}
 use Rattle.transducer.specs.Valid.{place_of}
 use Rattle.transducer.proofs.Bools.{all_none, all_more, all_fails}
@@ -13,8 +12,8 @@ pub returns-then-not-place_ok : goal.returns-then-not-place_ok
 unfolding place_of
 returns-then-not-place_ok c =
     all_fails most_transitions (place_of c.args.t) c.loop-l.l (omega arith)
-    (sym c.place_ok.ensures ∙ not-true _ c.if-not-place_ok.true)
+    (sym c.place_ok.ensures ∙ c.if-not-place_ok.true)
 
 pub loop-l-preserved : goal.loop-l-preserved
 unfolding place_of
-loop-l-preserved c = all_more _ _ c.loop-l.invariant (sym (not-false _ c.if-not-place_ok.false) ∙ c.place_ok.ensures)
+loop-l-preserved c = all_more _ _ c.loop-l.invariant (sym c.if-not-place_ok.false ∙ c.place_ok.ensures)
