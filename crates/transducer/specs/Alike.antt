@@ -1,5 +1,5 @@
 -- Tables with the same lines (document 02, job 2: two tables are alike). How often a line stands in a table does not count, nor its place: document
--- 000, definition 3.5, has the transitions as a set. Laws, in proofs/AlikeLaws.antt: to be alike is an equivalence (`Alike-self`, `alike_sym`,
+-- 000, definition 3.5, has the transitions as a set. Laws, in proofs/AlikeLaws.antt: to be alike is an equivalence (`alike_self`, `alike_sym`,
 -- `alike_trans`); a table with two lines exchanged is alike (`exchanged_alike`), and one with a line more behind the last exactly where that line stood
 -- there already (`appended_alike`); alike tables whose lines stand in the same order are one value (`alike_ordered`).
 use Rattle.std.specs.Prelude.{◌≡◌, ℕ, set}

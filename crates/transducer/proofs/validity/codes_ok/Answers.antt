@@ -1,0 +1,13 @@
+use Rattle.transducer.specs.Valid.{codes_of}
+use Rattle.transducer.proofs.Bools.{all_none, all_more, all_done}
+use Rattle.transducer.proofs.validity.codes_ok.Goals as goal
+
+pub loop-j-init : goal.loop-j-init
+loop-j-init c = all_none _
+
+pub loop-j-preserved : goal.loop-j-preserved
+loop-j-preserved c = all_more _ _ c.loop-j.invariant c.code_ok-ok.ensures
+
+pub returns-clause-value : goal.returns-clause-value
+unfolding codes_of
+returns-clause-value c = all_done _ _ _ c.loop-j.auto.j-end c.loop-j-test.false c.loop-j.invariant
