@@ -1,5 +1,6 @@
 -- `expand` meets its contract. Assumes nothing.
 use Rattle.std.proofs.Common.{arith}
+use Rattle.worklist.specs.Lists.{Worklist, lists}
 use Rattle.worklist.proofs.Stages.{scanned_none}
 use Rattle.product.proofs.StepLaws.{past_first_row}
 use Rattle.product.proofs.ConfinedLaws.{scanned_past, scanned_row}
@@ -18,8 +19,10 @@ loop-row-init c =
 pub loop-row-preserved : goal.loop-row-preserved
 loop-row-preserved c =
     let f = c.row_after-row.ensures in
+    let e = c.expand_row-n in
+    let s : Worklist = lists e.new.order e.new.rank e.new.parent e.new.via e.result in
     record {
       most = f.most;
       along = f.has;
-      scan = scanned_row c.loop-row.row c.requires c.loop-row.invariant.scan c.expand_row-n.ensures f;
+      scan = scanned_row {s' = s} c.loop-row.row c.requires c.loop-row.invariant.scan e.ensures f;
     }
