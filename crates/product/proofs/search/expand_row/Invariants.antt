@@ -1,0 +1,18 @@
+-- `step` is a step of the row, or there is none left; and the steps of the row before `step` lead to pairs found.
+use Rattle.std.proofs.Common.{◌-◌, ◌≤◌, ◌<◌, get_or}
+use Rattle.worklist.specs.Lists.{lists}
+use Rattle.product.specs.Numbers.{label_of}
+use Rattle.product.specs.Steps.{past_last, Steps}
+use Rattle.product.proofs.ConfinedLaws.{Scan}
+use Rattle.product.proofs.search.expand_row.Given as goal
+
+abbrev pub invariant-loop-step : goal.invariant-loop-step
+invariant-loop-step l = record {
+  most : l.step ≤ past_last;
+  steps : l.step < past_last → Steps l.left l.right (get_or l.initial.order l.head 0) (label_of l.row l.step);
+  scan : Scan l.fn.starts l.fn.starts2 l.allowed l.left l.right (lists l.initial.order l.initial.rank l.initial.parent l.initial.via l.count)
+      (lists l.order l.rank l.parent l.via l.n) l.head (label_of l.row 0) (label_of l.row l.step);
+}
+
+abbrev pub decreases-loop-step : goal.decreases-loop-step
+decreases-loop-step l = past_last - l.step
