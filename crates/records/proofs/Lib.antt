@@ -1,11 +1,10 @@
--- Laws of the definitions, for the crates above; what the walks over the record reader share.
+-- Laws of the definitions, for the crates above and the proofs of this one.
 pub mod Columns
 pub mod RoundTrip
 pub mod RangeLaws
 pub mod FilledLaws
 pub mod RecordTrip
 pub mod Behind
-pub mod Parts
-pub mod Walk
 pub mod Record
 pub mod RecordBytes
+pub mod RecordPuts

@@ -66,6 +66,7 @@ pub fn read_record(
 }
 
 // The number in the field at `at`, which must be in the range.
+#[tactic(auto, unfolding(crate::specs::Reading::number_at))]
 pub fn number_at(text: &[u8], at: usize, range: Range) -> Number
     ensures { result ≡ number_at text.now at range }
 {
@@ -108,6 +109,7 @@ pub fn in_range(f: Field, range: Range) -> Number
 }
 
 // Of two checks in a row the first fault, or 0.
+#[tactic(auto, unfolding(crate::specs::Reading::first))]
 pub fn first_fault(a: u8, b: u8) -> u8
     ensures { result ≡ first a b }
 {
