@@ -7,9 +7,9 @@ use Prim.Native.Nat.{ℕ, zero, suc, ◌+◌, ◌≤◌, ◌<◌}
 use native.Mathlib.Omega.{arith}
 use borrow.Author.Tests.{lt-ltb, ltb-true}
 use lib.Dec.{ltb}
-use lib.ListN.{length, get_or, set, replicate, length-map, length-replicate, get_or-map}
+use lib.ListN.{length, get_or, replicate, length-map, length-replicate, get_or-map}
 use lib.Seq.{ext_get_or}
-use Rattle.worklist.specs.Lists.{Worklist, Found, zeros}
+use Rattle.worklist.specs.Lists.{Worklist, zeros}
 use Rattle.transducer.specs.Limits.{most_states}
 use Rattle.transducer.specs.Accepted.{accepted_of}
 use Rattle.transducer.specs.declared.StateSet.{StateSet}

@@ -55,6 +55,7 @@ impl Outcome {
 
 impl PairSet {
     // The set with no pair.
+    #[tactic(auto, unfolding(crate::specs::UsefulPairs::no_pairs_of))]
     pub fn empty() -> PairSet
         ensures { result ≡ no_pairs_of }
     {
@@ -64,6 +65,7 @@ impl PairSet {
     }
 
     // Whether the pair (p, q) is in the set. A pair with a state over 31 is in no set.
+    #[tactic(auto, unfolding(crate::specs::UsefulPairs::has_pair))]
     pub fn contains(self, p: u8, q: u8) -> bool
         ensures { result ≡ has_pair self p q }
     {
@@ -200,6 +202,7 @@ fn links(order: &[u32], parent: &[u32], via: &[u32], count: u32, link: &mut [u16
 }
 
 // 1 + the pair at the place `from` - 1, or 0 where `from` is 0.
+#[tactic(auto, unfolding(crate::specs::Ways::link_of))]
 fn link_to(order: &[u32], from: u32) -> u16
     requires from_in_bounds { from ≤ length order.now }
     requires from_bound { 0 < from → get_or order.now (from - 1) 0 < most_pairs }

@@ -92,6 +92,7 @@ pub fn read(text: &[u8]) -> Reading
 
 // The refusal's number after the last record, which ends before `at`: bytes may follow. No length is checked: where nothing follows, the text is not
 // longer than the longest file (specs/Longest.antt).
+#[tactic(auto, unfolding(crate::specs::Reader::end_fault_of))]
 fn end_fault(text: &[u8], at: usize) -> u8
     ensures { result ≡ end_fault_of text.now at }
 {
@@ -142,6 +143,7 @@ impl Outcome {
 }
 
 // The outcome with a number of 0 to 6, at a record.
+#[tactic(auto, unfolding(crate::specs::Outcome::outcome_for))]
 pub fn outcome_of(fault: u8, at: u16) -> Outcome
     ensures { result ≡ outcome_for fault at }
 {
