@@ -52,6 +52,7 @@ def code_of(text):
 def snake(name):
     turned = name.replace("-", "_")
     turned = re.sub(r"(?<=[a-z0-9'])([A-Z])", r"_\1", turned)
+    turned = re.sub(r"(?<=_[A-Z])([A-Z])", r"_\1", turned)
     turned = re.sub(r"(?<=[A-Za-z0-9])_([A-Z])", lambda m: "_" + m.group(1).lower(), turned)
     return turned
 

@@ -8,7 +8,7 @@ use native.Mathlib.Omega.{arith}
 use lib.Dec.{eqb}
 use lib.ListN.{length, get_or, length-set}
 use Rattle.transducer.specs.Limits.{most_transitions, most_outputs}
-use Rattle.transducer.specs.Refusals.{ended, wrong_byte, not_aNumber, out_of_range, not_rising}
+use Rattle.transducer.specs.Refusals.{ended, wrong_byte, not_a_number, out_of_range, not_rising}
 use Rattle.transducer.specs.Transition.{outside}
 use Rattle.transducer.specs.Blank.{blank_transducer}
 use Rattle.transducer.specs.Valid.{Shaped}
@@ -99,7 +99,7 @@ module _ {m : ℕ} where
       either_low (eqb fault 0) (at_record Taken (omega arith))
       (either_low (eqb fault ended) (at_record (Ended rec) h)
       (either_low (eqb fault wrong_byte) (at_record (WrongByte rec) h)
-      (either_low (eqb fault not_aNumber) (at_record (NotANumber rec) h)
+      (either_low (eqb fault not_a_number) (at_record (NotANumber rec) h)
       (either_low (eqb fault out_of_range) (at_record (OutOfRange rec) h)
       (either_low (eqb fault not_rising) (at_record (NotRising rec) h) (at_record (BytesFollow rec) h))))))
 
