@@ -6,7 +6,6 @@
 
 ghost use Rattle.std.specs.Prelude.{◌≡◌, ◌+◌, ◌≤◌, ◌<◌, length};
 
-use libc::STDOUT_FILENO;
 use words::Comparison;
 
 // The codes of a list.
@@ -26,38 +25,38 @@ const FINAL: usize = FIRST + 4;
 // The bytes of a line, its end included.
 const LINE: usize = FINAL + 4;
 
-fn main() {
+fn main(rt: HostRuntime) {
     let mut x = [0u8; CODES];
     let mut y = [0u8; CODES];
-    compare_all(&mut x, &mut y);
+    compare_all(&rt, &mut x, &mut y);
 }
 
 // Fills both lists, with codes and then with other bytes, and compares them.
-fn compare_all(x: &mut [u8], y: &mut [u8])
+fn compare_all(rt: &HostRuntime, x: &mut [u8], y: &mut [u8])
     requires in_bounds { 1 < length x.old }
     requires y_len { length y.old ≡ length x.old }
 {
-    write(b"the codes 1 to 250\n");
+    write(rt, b"the codes 1 to 250\n");
     codes(x);
     codes(y);
-    compare(x, y, 2, 1);
-    write(b"the bytes 0 and 251 to 255\n");
+    compare(rt, x, y, 2, 1);
+    write(rt, b"the bytes 0 and 251 to 255\n");
     other_bytes(x);
     other_bytes(y);
-    compare(x, y, 251, 0);
+    compare(rt, x, y, 251, 0);
 }
 
 // Two equal lists; then the same with another last code in the second, and then with another first code in it, too.
-fn compare(x: &[u8], y: &mut [u8], first: u8, last: u8)
+fn compare(rt: &HostRuntime, x: &[u8], y: &mut [u8], first: u8, last: u8)
     requires in_bounds { 1 < length x.now }
     requires y_len { length y.old ≡ length x.now }
 {
-    beginnings(x, y);
+    beginnings(rt, x, y);
     let end = y.len() - 1;
     y[end] = last;
-    other_last(x, y);
+    other_last(rt, x, y);
     y[0] = first;
-    other_first(x, y);
+    other_first(rt, x, y);
 }
 
 // Fills the list with the codes 1 to 250, in turn.
@@ -76,46 +75,46 @@ fn other_bytes(list: &mut [u8]) {
 }
 
 // Of two equal lists, the whole and beginnings.
-fn beginnings<'a>(x: &'a [u8], y: &'a [u8])
+fn beginnings<'a>(rt: &HostRuntime, x: &'a [u8], y: &'a [u8])
     requires in_bounds { 1 < length x.now }
     requires y_len { length y.now ≡ length x.now }
 {
     let last = x.len() - 1;
-    show(b"both whole              ", x, y);
-    show(b"second without its last ", x, &y[0..last]);
-    show(b"first without its last  ", &x[0..last], y);
-    show(b"of the second one code  ", x, &y[0..1]);
-    show(b"of the first one code   ", &x[0..1], y);
-    show(b"of the second none      ", x, &y[0..0]);
-    show(b"of the first none       ", &x[0..0], y);
-    show(b"of both none            ", &x[0..0], &y[0..0]);
+    show(rt, b"both whole              ", x, y);
+    show(rt, b"second without its last ", x, &y[0..last]);
+    show(rt, b"first without its last  ", &x[0..last], y);
+    show(rt, b"of the second one code  ", x, &y[0..1]);
+    show(rt, b"of the first one code   ", &x[0..1], y);
+    show(rt, b"of the second none      ", x, &y[0..0]);
+    show(rt, b"of the first none       ", &x[0..0], y);
+    show(rt, b"of both none            ", &x[0..0], &y[0..0]);
 }
 
 // Of two lists that differ in the last code.
-fn other_last<'a>(x: &'a [u8], y: &'a [u8])
+fn other_last<'a>(rt: &HostRuntime, x: &'a [u8], y: &'a [u8])
     requires in_bounds { 1 < length x.now }
     requires y_len { length y.now ≡ length x.now }
 {
     let last = x.len() - 1;
-    show(b"another last code       ", x, y);
-    show(b"both without it         ", &x[0..last], &y[0..last]);
-    show(b"second without it       ", x, &y[0..last]);
-    show(b"first without it        ", &x[0..last], y);
+    show(rt, b"another last code       ", x, y);
+    show(rt, b"both without it         ", &x[0..last], &y[0..last]);
+    show(rt, b"second without it       ", x, &y[0..last]);
+    show(rt, b"first without it        ", &x[0..last], y);
 }
 
 // Of two lists that differ in the first code, too.
-fn other_first<'a>(x: &'a [u8], y: &'a [u8])
+fn other_first<'a>(rt: &HostRuntime, x: &'a [u8], y: &'a [u8])
     requires in_bounds { 1 < length x.now }
     requires y_len { length y.now ≡ length x.now }
 {
     let last = x.len() - 1;
-    show(b"another first code      ", x, y);
-    show(b"of each the first alone ", &x[0..1], &y[0..1]);
-    show(b"the codes between       ", &x[1..last], &y[1..last]);
+    show(rt, b"another first code      ", x, y);
+    show(rt, b"of each the first alone ", &x[0..1], &y[0..1]);
+    show(rt, b"the codes between       ", &x[1..last], &y[1..last]);
 }
 
 // Prints the line of x and y.
-fn show<'a>(name: &[u8; NAME], x: &'a [u8], y: &'a [u8]) {
+fn show<'a>(rt: &HostRuntime, name: &[u8; NAME], x: &'a [u8], y: &'a [u8]) {
     let mut line = [b' '; LINE];
     line[FIRST + 2] = b'-';
     line[FINAL + 2] = b'-';
@@ -126,7 +125,7 @@ fn show<'a>(name: &[u8; NAME], x: &'a [u8], y: &'a [u8]) {
     let end = words::unmatched(x, y);
     numbers(&mut line, end);
     line[LINE - 1] = b'\n';
-    write(&line);
+    write(rt, &line);
 }
 
 // Puts into the line, which has `LINE` bytes, how many codes the end has, and where it has some its first and its last.
@@ -183,6 +182,8 @@ fn wide(code: u8) -> usize {
 }
 
 // Prints these bytes; a write that fails is reported.
-fn write(bytes: &[u8]) {
-    streams::write(STDOUT_FILENO, b"longwords: standard output", bytes);
+fn write(rt: &HostRuntime, bytes: &[u8]) {
+    let output = rt.stdout();
+    let errors = rt.stderr();
+    streams::write(&output, &errors, b"longwords: standard output", bytes);
 }

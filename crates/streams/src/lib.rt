@@ -3,8 +3,15 @@
 #![tactic(auto)]
 
 ghost use Rattle.std.specs.Prelude.{◌≡◌, ◌≤◌, length};
-ghost use Rattle.streams.specs.declared.Input.{Input};
+ghost use Rattle.streams.specs.declared.Input.TheVariants.{Failed};
 ghost use Rattle.streams.specs.Streams.{Told, ReadOn, StepOf};
+
+use std::fmt::InlineText;
+use std::io;
+use std::io::{ErrorKind, Print, Read};
+
+// The most bytes that are shown of what the system says of an error.
+const MOST_WORDS: usize = 256;
 
 // What came of reading: how many bytes stand at the front of the buffer, or that a read failed.
 #[derive(Clone, Copy)]
@@ -19,12 +26,12 @@ enum Step {
     More(usize),
     Ended,
     Interrupted,
-    Failed,
+    Failed(io::Error),
 }
 
 // Reads until `buf` is full or the input ends. A read that brings only a part, or that a signal interrupts, is followed by another; one that fails is
-// reported under the name `what`.
-pub fn read(fd: i32, what: &[u8], buf: &mut [u8]) -> Input
+// reported to `errors` under the name `what`.
+pub fn read<R: Read, P: Print>(source: &mut R, errors: &P, what: &[u8], buf: &mut [u8]) -> Input
     ensures { Told result buf.new }
 {
     let mut done = 0;
@@ -35,53 +42,72 @@ pub fn read(fd: i32, what: &[u8], buf: &mut [u8]) -> Input
             return Input::Got(done);
         }
         turns -= 1;
-        match read_on(fd, buf, done) {
+        match read_on(source, buf, done) {
             Step::More(n) => done += n,
             Step::Interrupted => {}
             Step::Ended => return Input::Got(done),
-            Step::Failed => return failed(what),
+            Step::Failed(error) => return failed(errors, what, error),
         }
     }
-    failed(what)
+    failed(errors, what, io::Error::from(ErrorKind::Interrupted))
 }
 
 // Reports a failed read.
-fn failed(what: &[u8]) -> Input
-    ensures { result ≡ Input.Failed }
+fn failed<P: Print>(errors: &P, what: &[u8], error: io::Error) -> Input
+    ensures { result ≡ Failed }
 {
-    os::fail(what);
+    report(errors, what, error);
     Input::Failed
 }
 
 // One read into the places of `buf` from `at` on; those before stay as they are.
-fn read_on(fd: i32, buf: &mut [u8], at: usize) -> Step
+fn read_on<R: Read>(source: &mut R, buf: &mut [u8], at: usize) -> Step
     requires { at ≤ length buf.old }
     ensures { ReadOn at buf.old buf.new result }
 {
     let part = &mut buf[at..];
-    let got = libc::read(fd, part);
+    let got = source.read(part);
     step_of(got, part)
 }
 
-// What it means that `libc::read` into `part` has answered `got`.
-fn step_of(got: isize, part: &[u8]) -> Step
+// What it means that a read into `part` has answered `got`.
+fn step_of(got: io::Result<usize>, part: &[u8]) -> Step
     ensures { StepOf got (length part.now) result }
 {
-    if got > 0 {
-        return Step::More(io::count(got, part));
-    }
-    if got < 0 {
-        if os::errno() == libc::EINTR {
-            return Step::Interrupted;
+    match got {
+        Ok(n) => {
+            if n == 0 {
+                return Step::Ended;
+            }
+            Step::More(n.min(part.len()))
         }
-        return Step::Failed;
+        Err(error) => {
+            if error.kind() == ErrorKind::Interrupted {
+                return Step::Interrupted;
+            }
+            return Step::Failed(error);
+        }
     }
-    Step::Ended
 }
 
-// Writes all of `bytes`. A write that fails, or that takes only a part and then no more, is reported under the name `what`.
-pub fn write(fd: i32, what: &[u8], bytes: &[u8]) {
-    if !io::write_all(fd, bytes) {
-        os::fail(what);
+// Writes all of `bytes`. A write that fails, or that takes only a part and then no more, is reported to `errors` under the name `what`.
+pub fn write<W: Print, P: Print>(sink: &W, errors: &P, what: &[u8], bytes: &[u8]) {
+    match sink.write_all(bytes) {
+        Ok(()) => {}
+        Err(error) => report(errors, what, error),
     }
+}
+
+// One line: the name, and what the system says of the error, without its number.
+fn report<P: Print>(errors: &P, what: &[u8], error: io::Error) {
+    let words = InlineText::<MOST_WORDS>::of(error);
+    let text = words.as_str();
+    let end = match text.find(" (os error ") {
+        Some(at) => at,
+        None => text.len(),
+    };
+    let said = text.split_at(end).0;
+    // Where standard error fails too, there is nowhere left to say it.
+    let _named = errors.write_all(what);
+    let _said = println!(errors; ": {said}");
 }

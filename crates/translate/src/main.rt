@@ -5,38 +5,44 @@
 
 ghost use Rattle.streams.specs.Streams.{Told};
 
-use libc::{STDIN_FILENO, STDOUT_FILENO};
 use listing::TRANSLATION_BYTES;
 use report::{READ_BYTES, READ_CODES};
+use std::fs::File;
+use std::io::Print;
 use streams::Input;
 
 // Reads the beginning of the file `table`; a file that can't be opened counts as empty.
-fn read_table(text: &mut [u8]) -> Input
+fn read_table<P: Print>(rt: &HostRuntime, errors: &P, text: &mut [u8]) -> Input
     ensures { Told result text.new }
 {
-    let fd = os::open_read(b"table");
-    if fd < 0 {
-        return Input::Got(0);
+    match File::open(rt, "table") {
+        Ok(mut file) => streams::read(&mut file, errors, b"translate: table", text),
+        Err(_) => Input::Got(0),
     }
-    let table = streams::read(fd, b"translate: table", text);
-    libc::close(fd);
-    table
 }
 
-fn main() {
+fn main(rt: HostRuntime) {
+    let errors = rt.stderr();
     let mut text = [0u8; READ_BYTES];
-    let Input::Got(got) = read_table(&mut text) else {
+    let Input::Got(got) = read_table(&rt, &errors, &mut text) else {
         return;
     };
+    let mut word = rt.stdin();
     let mut input = [0u8; READ_CODES];
-    let Input::Got(codes) = streams::read(STDIN_FILENO, b"translate: standard input", &mut input)
-    else {
+    let Input::Got(codes) = streams::read(
+        &mut word,
+        &errors,
+        b"translate: standard input",
+        &mut input,
+    ) else {
         return;
     };
     let mut out = [0u8; TRANSLATION_BYTES];
     let listed = report::translation(&text, got, &input, codes, &mut out);
+    let output = rt.stdout();
     streams::write(
-        STDOUT_FILENO,
+        &output,
+        &errors,
         b"translate: standard output",
         &out[0..listed],
     );

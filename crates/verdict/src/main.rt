@@ -2,17 +2,25 @@
 // printed. Where the input can't be read to its end nothing is printed, and the failure is reported on standard error.
 #![tactic(auto)]
 
-use libc::{STDIN_FILENO, STDOUT_FILENO};
 use listing::VERDICT_BYTES;
 use report::READ_BYTES;
 use streams::Input;
 
-fn main() {
+fn main(rt: HostRuntime) {
+    let mut input = rt.stdin();
+    let errors = rt.stderr();
     let mut text = [0u8; READ_BYTES];
-    let Input::Got(got) = streams::read(STDIN_FILENO, b"verdict: standard input", &mut text) else {
+    let Input::Got(got) = streams::read(&mut input, &errors, b"verdict: standard input", &mut text)
+    else {
         return;
     };
     let mut out = [0u8; VERDICT_BYTES];
     let listed = report::verdict(&text, got, &mut out);
-    streams::write(STDOUT_FILENO, b"verdict: standard output", &out[0..listed]);
+    let output = rt.stdout();
+    streams::write(
+        &output,
+        &errors,
+        b"verdict: standard output",
+        &out[0..listed],
+    );
 }
