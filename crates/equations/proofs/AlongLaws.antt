@@ -81,6 +81,10 @@ module _ {starts : StateSet} {m written out out_step gap : List ℕ} {v : ℕ} {
         onward s.grounds.lists.links written z.led
         (λ e. n (omega (arith, (s.grounds.gaps i z.led.inside z.counts).balance, (gap_ends {written = written} z.led e).balance)))
 
+    -- the test of the loop tells that it goes on
+    pub along_on : (not (eqb (get_or gap i 0) level) && not (get_or tested i false)) ≡ true → Onward out out_step written i (get_or out i 0 - 1)
+    along_on e = along_ahead (not_level (get_or gap i 0) (get_or tested i false) e)
+
     -- the places are small
     pub along_low : length left ≡ most_word → length right ≡ most_word → (l ≤ most_word) × (r ≤ most_word)
     along_low e e' = (omega (arith, z.held.lefts.within), omega (arith, z.held.rights.within))
