@@ -1,0 +1,26 @@
+-- `stands` meets its contract. Assumes nothing.
+use Rattle.std.proofs.Common.{ℕ, ◌+◌, ◌*◌, refl, get_or, arith}
+use mathlib.Core.Bool.{false≢true}
+use Rattle.transducer.specs.Transition.{firsts}
+use Rattle.pathwords.proofs.ComparingLaws.{stands_more, stands_not}
+use Rattle.outputs.specs.Outputs.{entry}
+use Rattle.outputs.proofs.OutputLaws.{length_codes}
+use Rattle.outputs.proofs.stands.Goals as goal
+
+pub returns-then-word-at : goal.returns-then-word-at
+returns-then-word-at c =
+    (λ e. absurd (false≢true e), λ s. absurd (omega (arith, s.within, length_codes c.args.written.now c.args.l)))
+
+pub loop-j-init : goal.loop-j-init
+unfolding firsts
+loop-j-init c = (omega arith, refl)
+
+pub returns-then-word-at-2 : goal.returns-then-word-at-2
+returns-then-word-at-2 c =
+    let code = λ (i : ℕ). get_or c.args.written.now (c.args.l * entry + 1 + i) 0 in
+    (λ e. absurd (false≢true e), λ h. absurd (stands_not c.args.word.now c.args.at code _ c.loop-j.j c.loop-j-test.true c.if-word-at-2.true h.is))
+
+pub loop-j-preserved : goal.loop-j-preserved
+loop-j-preserved c =
+    let code = λ (i : ℕ). get_or c.args.written.now (c.args.l * entry + 1 + i) 0 in
+    (c.loop-j.invariant.0, stands_more c.args.word.now c.args.at code c.loop-j.j (omega arith) c.loop-j.invariant.1 c.if-word-at-2.false)
