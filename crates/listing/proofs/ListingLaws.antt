@@ -8,7 +8,7 @@ use lib.ListN.{length, length-append}
 use mir.Val.{bool_byte}
 use Rattle.buffers.specs.Put.{Room, Puts}
 use Rattle.buffers.proofs.PutsLaws.{room_front, room_behind, puts_behind}
-use Rattle.buffers.proofs.Parts.{below, in_row}
+use Rattle.buffers.proofs.Parts.{Parts, below, in_row, parts_none}
 use Rattle.records.specs.Number.{leading_of, leadings_of, columns_of}
 use Rattle.records.specs.Record.{listing_columns, fields_of, record_bytes, counted_bytes}
 use Rattle.records.proofs.RecordBytes.{length_record, length_counted}
@@ -72,6 +72,17 @@ module _ (split : Bool) (u : ℕ) (w a b x y : List ℕ) (shared : ℕ) {out mid
           → Puts out 0 (verdict_listing split u w a b x y shared) after end
       unfolding verdict_listing
       split_put q = rw e (puts_behind (room_front (verdict_record true u) (witness_listing w a b x y shared) (rw e at r)) (rw e at p) q)
+
+-- i records of the witness are put behind the record `V`
+abbrev pub WitnessPut : (w a b x y : List ℕ) → ℕ → List ℕ → ℕ → ℕ → List ℕ → ℕ → Type 0
+WitnessPut w a b x y shared mid next i out at =
+    Parts (witness_listing w a b x y shared) (in_row (witness_parts w a b x y shared)) 6 mid next i out at
+
+-- before the first of them
+pub no_record_put : {split : Bool} (u : ℕ) {w a b x y : List ℕ} (shared : ℕ) {out mid : List ℕ} {next : ℕ}
+    → Puts out 0 (verdict_record split u) mid next → split ≡ true → VerdictRoom w a b x y out → WitnessPut w a b x y shared mid next 0 mid next
+no_record_put {split} u {w} {a} {b} {x} {y} shared p e r =
+    parts_none (witness_parts_lem w a b x y shared) (witness_room split u w a b x y shared p e (verdict_listing_room split u shared r))
 
 -- ---- what is printed
 

@@ -11,7 +11,6 @@ use lib.Seq.{length-take-le, take_all}
 use Rattle.transducer.specs.Refusals.{word_too_long}
 use Rattle.translator.specs.Words as words
 use Rattle.translator.proofs.RefusalLaws.{refusal_long}
-use Rattle.functionality.specs.Decided.{refusal_of}
 use Rattle.tablereader.specs.Outcome as reader
 use Rattle.tablereader.specs.Reader.{read_of}
 use Rattle.tablereader.specs.declared.Reading.{Reading}
