@@ -1,10 +1,10 @@
 -- Laws of the table as it is made: an array that is clear at first, the lines of the listed steps, and the whole. Assumes nothing.
 use mathlib.Core.Path.{◌≡◌, refl, sym, ap, ◌∙◌}
-use mathlib.Core.Bool.{Bool, true, false, cond}
+use mathlib.Core.Bool.{Bool, true, false, cond, ◌&&◌}
 use mathlib.Core.List.Memᴰ
 use mathlib.Core.List.{List, [], ◌++◌, Memᴰ}
 use mathlib.Core.Logic.{⊎_elim}
-use Prim.Native.Nat.{ℕ, ◌+◌, ◌-◌, ◌/◌, ◌%◌, ◌≤◌, ◌<◌}
+use Prim.Native.Nat.{ℕ, ◌-◌, ◌/◌, ◌%◌, ◌≤◌, ◌<◌}
 use native.Mathlib.Omega.{arith}
 use lib.ListN.{length, get_or, replicate, length-replicate, get_or-replicate}
 use Rattle.transducer.specs.Limits.{most_states, most_transitions}
@@ -22,7 +22,7 @@ use Rattle.product.specs.Steps.{past_last, target_of}
 use Rattle.product.proofs.TargetLaws.{target_low}
 use Rattle.joints.proofs.StepLaws.{Coupled}
 use Rattle.series.specs.Result.{state_of, pairs, both_in_of, lines, pair_transducer}
-use Rattle.series.specs.Parts.{row_of, rows_of, step_at, steps_of, Listed, Numbered, takes, line_of, line_by, Placed, Small, Written}
+use Rattle.series.specs.Parts.{step_number, step_test, row_of, rows_of, step_at, steps_of, Listed, Numbered, takes, line_of, line_by, Placed, Small, Written}
 use Rattle.series.proofs.GatherLaws.{gather_at, picked_at, get_d_mapped}
 use Rattle.series.proofs.StateLaws.{state_order}
 use Rattle.series.proofs.TestLaws.{test_exactly}
@@ -64,7 +64,8 @@ module _ {first second : Transducer} {left right : List ℕ} (c : Coupled first 
   unfolding row_of step_at
   row_placed v l k h low m =
       let g = gather_at past_last _ m in
-      let p = picked_at _ g.stands in
+      let p : (step_test left right v l g.i && joined (target_of left right v (label_of l g.i)) ≡ true) × (k ≡ step_number v l g.i) =
+      picked_at _ g.stands in
       let s = (test_exactly c.image.machine c.image'.machine v l g.i low (omega (arith, g.low))).0 (and_left _ _ p.0) in
       let is = p.1 in
       rw is

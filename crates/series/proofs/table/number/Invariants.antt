@@ -1,0 +1,14 @@
+-- The loop's invariant: the pairs below v have their states, and n is the state that v has if it is joined.
+use Rattle.std.proofs.Common.{◌≡◌, ℕ, ◌≤◌, ◌<◌, length, get_or}
+use Rattle.product.specs.Numbers.{most_pairs}
+use Rattle.joints.specs.Found.{among}
+use Rattle.series.specs.Result.{state_of}
+use Rattle.series.proofs.table.number.Given as goal
+
+abbrev pub invariant-loop-v : goal.invariant-loop-v
+invariant-loop-v l = record {
+  long : length l.states ≡ most_pairs;
+  next : l.n ≡ state_of (among l.joined) l.v;
+  low : l.n ≤ l.v;
+  state : (u : ℕ) → u < l.v → get_or l.states u 0 ≡ state_of (among l.joined) u;
+}
