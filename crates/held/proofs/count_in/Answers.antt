@@ -1,0 +1,7 @@
+-- `count_in` meets its contract: two bytes, the lower first. Assumes nothing.
+use Rattle.held.specs.Held.{count_in_of}
+use Rattle.held.proofs.count_in.Goals as goal
+
+pub returns : goal.returns
+unfolding count_in_of
+returns c = rw (c.wide.ensures.0, c.wide-2.ensures.0)
