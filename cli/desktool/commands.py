@@ -173,7 +173,7 @@ def make_parser():
     parser = argparse.ArgumentParser(
         prog="yotselina", description="Asks the Yotselina library about a table file, or joins two.",
         epilog=f"Errors go to standard error with exit status 2. {VARIABLE} or --library names the library (a shared object); else it is made "
-               "from target/staticlib/libunit.a (by `rt staticlib unit`) on first use. `yotselina COMMAND --help` says more.")
+               "from target/staticlib/libunit.a (by `tools/build unit`) on first use. `yotselina COMMAND --help` says more.")
     commands = parser.add_subparsers(dest="command", metavar="COMMAND", required=True)
     for name, command in COMMANDS.items():
         one = commands.add_parser(name, help=command.help, description=f"{name}: {command.help}", epilog=command.more)

@@ -82,7 +82,7 @@ def find(named):
     if out_of_date():
         build()
     if not SHARED.exists():
-        raise Failed(f"no library at {SHARED}: make its archive with\n    cd {ROOT} && rt staticlib unit\n"
+        raise Failed(f"no library at {SHARED}: make its archive with\n    cd {ROOT} && tools/build unit\n"
                      f"or name another shared object with --library or {VARIABLE}")
     return str(SHARED)
 

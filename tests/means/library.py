@@ -10,7 +10,7 @@ from ctypes import c_uint8, c_uint16, c_uint32, c_uint64
 
 from means.held import HELD
 from means.listing import MAX_TRANSLATION, MAX_WITNESS, MAX_WITNESS_OUTPUT, Refusal
-from means.programs import ROOT
+from means.programs import ROOT, build as build_part, stale
 from means.settings import chosen, setting
 from means.tools import Missing, debian
 from means.transducer import LINE_PLACES, MAX_FILE, MAX_STATES
@@ -65,25 +65,13 @@ def header_version():
 # --- the archive -----------------------------------------------------------------------------------------------------
 
 
-def stale(archive):
-    """Whether the archive is missing or older than some source."""
-    sources = [ROOT / "crates.txt", *ROOT.glob("crates/*/src/**/*.rt")]
-    return not archive.exists() or archive.stat().st_mtime < max(source.stat().st_mtime for source in sources)
-
-
 def find_archive():
     """The archive, built if it is missing or old; the variable UNIT names another."""
     archive = ROOT / setting("UNIT")
     if not chosen("UNIT") and stale(archive):
-        print("building: rt staticlib unit", flush=True)
-        try:
-            built = subprocess.run(["rt", "staticlib", "unit"], cwd=ROOT, stdout=subprocess.PIPE, stderr=subprocess.STDOUT, text=True, check=False)
-        except OSError as error:
-            raise Missing(f"rt staticlib unit: {error}") from error
-        if built.returncode != 0:
-            raise Missing(f"rt staticlib unit: exit status {built.returncode}: {built.stdout[-1000:]}")
+        build_part("unit")
     if not archive.exists():
-        raise Missing(f"no archive at {archive}: build it (rt staticlib unit), or name it in UNIT")
+        raise Missing(f"no archive at {archive}: build it (tools/build unit), or name it in UNIT")
     return archive
 
 

@@ -5,7 +5,7 @@ import subprocess
 import time
 from pathlib import Path
 
-from means.settings import setting
+from means.settings import chosen, setting
 from means.tools import Missing
 
 ROOT = Path(__file__).resolve().parents[2]
@@ -18,8 +18,27 @@ class Broken(Exception):
     """The program did not end in time, or not with status 0."""
 
 
+def stale(built):
+    """Whether what is built is missing or older than some source."""
+    sources = [ROOT / "crates.txt", *ROOT.glob("crates/*/src/**/*.rt")]
+    return not built.exists() or built.stat().st_mtime < max(source.stat().st_mtime for source in sources)
+
+
+def build(name):
+    """Builds a program, or the archive of the library."""
+    print(f"building: tools/build {name}", flush=True)
+    try:
+        built = subprocess.run([ROOT / "tools" / "build", name], stdout=subprocess.PIPE, stderr=subprocess.STDOUT, text=True, check=False)
+    except OSError as error:
+        raise Missing(f"tools/build {name}: {error}") from error
+    if built.returncode != 0:
+        raise Missing(f"tools/build {name}: exit status {built.returncode}: {built.stdout[-1000:]}")
+
+
 def find(variable):
-    """The path of a program: where the build leaves it, or what the variable names."""
+    """The path of a program, built if it is missing or old; the variable names another."""
+    if not chosen(variable) and stale(ROOT / setting(variable)):
+        build(variable.lower())
     path = shutil.which(str(ROOT / setting(variable)))
     if path is None:
         raise Missing(f"no program at {ROOT / setting(variable)}: build it, or name it in {variable}")

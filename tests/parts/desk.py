@@ -93,7 +93,7 @@ def try_first_use(tool, findings):
     def made():
         return tool.shared.stat().st_mtime_ns
 
-    check("no archive", faults_of_run(tool.about(named.P_FILE, "check"), 2, "", "rt staticlib unit"))
+    check("no archive", faults_of_run(tool.about(named.P_FILE, "check"), 2, "", "tools/build unit"))
     shutil.copy(find_archive(), tool.archive)
     check("no gcc", faults_of_run(tool("check", "table", PATH="/nowhere"), 2, "", "gcc -shared -o"))
     check("nothing is left behind", faults_where((os.listdir(tool.archive.parent) == ["libunit.a"], "more files than the archive")))

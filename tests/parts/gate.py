@@ -16,7 +16,7 @@ from means.programs import ROOT
 from means.settings import DEFAULTS
 
 GROUP = "the gate refuses"
-TIME_LIMIT = 60  # seconds for one try
+TIME_LIMIT = 120  # seconds for one try
 COUNTS = re.compile(r"(\d+) passed, (\d+) failed")
 OUTSIDE = {name: value for name, value in os.environ.items() if name not in DEFAULTS}
 
@@ -46,6 +46,7 @@ def faults_of(command, outside, expected, *says):
 
 # --- .ci/run ---------------------------------------------------------------------------------------------------------
 
+TRIED = "rt: ok, 39 crates proved; must-fail edits: 88 refused"
 RT = ('test "$*" = ci && echo "3 passed, 0 failed"',)
 RUN = ('echo "5 passed, 0 failed"',)
 CLEARED = tuple(f'test -z "${{{name}+set}}" || {{ echo "{name} is set"; exit 1; }}' for name in DEFAULTS)
@@ -64,6 +65,8 @@ GATES = (
     ("an rt that counts nothing", ('echo "0 passed, 0 failed"',), RUN, (5, 1)),
     ("an rt that fails", ('echo "3 passed, 1 failed"', "exit 1"), RUN, (8, 1)),
     ("an rt that stops without a count", ("exit 2",), RUN, (5, 1)),
+    ("an rt that could not try an edit", (f'echo "{TRIED}, 1 bad, in 1 minute"', *RT), RUN, (8, 1)),
+    ("nothing where every edit is refused", (f'echo "{TRIED}, in 1 minute"', *RT), RUN, (8, 0)),
     ("variables of the surroundings", RT, (*CLEARED, *RUN), (8, 0)),
 )
 
@@ -127,49 +130,29 @@ def try_runs(findings):
 
 # --- the part wrong ----------------------------------------------------------------------------------------------------
 
-# a stand-in for the checker: it does what the crate's source says, in the crate's folder
-STAND_IN = 'cd "$(dirname "$4")/.." && . src/lib.rt'
-OVER_MODULES, WHOLE = "over the modules of their crate's proof", "whole"
-AS_PROVED = 'echo "crate small: modules loaded=1 checked=0"'
-AGAIN = 'case "$*" in *--incremental*) echo "crate small: modules loaded=0 checked=1" ;; esac'
-ERROR, NOT_PROVED = 'echo "$PWD/{}:1:1: error: {}"', "echo logic=not-proved"
-REFUSED = "; ".join((ERROR.format("proofs/Small.antt", "1 is not 2"), NOT_PROVED, "exit 1"))
+AS_IT_MUST = "refused, as it must be: proofs/Small.antt:1:1: error: 1 is not 2"
 
-
-def edit(new, old="exit 0", file="src/lib.rt"):
-    return f"# a wrong program\nfile: {file}\nold: {old}\nnew: {new}\n"
-
-
-# edits of the small crate, each with what is said of it
+# what `rt must-fail` says of an edit of the small crate (None: nothing), and what the part then says
 EDITS = {
-    "taken": (edit("exit  0"), "TAKEN"),
-    "cannot_tell": (edit(REFUSED.replace("exit 1", "exit 3")), "unclear, exit status 3: proofs/Small.antt:1:1: error: 1 is not 2"),
-    "not_said_to_be_unproved": (edit(REFUSED.replace(NOT_PROVED, "echo logic=proved")), "unclear, exit status 1"),
-    "first_error_in_the_program": (edit(f"{ERROR.format('src/lib.rt', 'no type')}; {REFUSED}"), "unclear, exit status 1: src/lib.rt:1:1: error: no type"),
-    "no_error": (edit(f"{NOT_PROVED}; exit 1"), "unclear, exit status 1: no error: "),
-    "shape": (edit(REFUSED.replace("1 is not 2", "there is no Need-7")), "only its shape is refused: proofs/Small.antt:1:1: error: there is no Need-7"),
-    "not_there": (edit("exit 1", "exit 5"), "no such edit can be made: 'exit 5' stands 0 times in src/lib.rt"),
-    "there_twice": (edit("false", "echo"), "no such edit can be made: 'echo' stands 2 times in src/lib.rt"),
-    "no_file": (edit("exit 1", file="src/none.rt"), "no such edit can be made: [Errno 2] No such file"),
-    "outside": (edit("exit 1", file="src/../src/lib.rt"), "no such edit can be made: 'exit 0' stands 1 times in src/../"),
-    "nothing": ("# nothing\n", "no such edit can be made: it edits nothing"),
+    "taken": ("NOT REFUSED: it is proved", "NOT REFUSED"),
+    "cannot_be_made": ("BAD EDIT: an 'old:' text is in src/lib.rt 0 times, and not once", "BAD EDIT"),
+    "not_tried": ("NOT TRIED: its check was killed", "NOT TRIED"),
+    "shape": ("refused, as it must be (only because a proof file names what the edit took away, so this says little of the contract", "only its shape is refused"),
+    "passed_over": (None, "nothing is said of it"),
 }
-GOOD = {"proof": edit(REFUSED), "definition": edit(REFUSED.replace("proofs/", "specs/"))}
-ONLY_WHOLE = edit(f'case "$*" in *--incremental*) exit 0 ;; esac; {REFUSED}')
+GOOD = {"proof": AS_IT_MUST, "definition": AS_IT_MUST.replace("proofs/", "specs/")}
 
-# what is tried, what the unedited crate does, edits, expected counts, what is said
+# what is tried, what is said of each edit, expected counts, what the part says
 WRONG = (
-    ("edits that are refused", AS_PROVED, GOOD, (2, 0), f"{OVER_MODULES} 2"),
-    ("edits that are not", AS_PROVED, GOOD | {name: text for name, (text, _) in EDITS.items()}, (2, len(EDITS)),
-     *(f"small/{name}: {says}" for name, (_, says) in EDITS.items())),
-    ("a crate that is checked again", AGAIN, {"whole": ONLY_WHOLE}, (1, 0), f"{WHOLE} 1"),
-    ("a crate that is not proved", f"{REFUSED}; exit 0", {"proof": GOOD["proof"]}, (0, 1), "small/proof: its crate is not proved without it"),
-    ("no edit", AS_PROVED, {}, (0, 1), "nothing was compared"),
+    ("edits that are refused", GOOD, (2, 0), ("tried 2",)),
+    ("edits that are not", GOOD | {name: said for name, (said, _) in EDITS.items()}, (2, len(EDITS)),
+     tuple(f"small/{name}: {says}" for name, (_, says) in EDITS.items())),
+    ("no edit", {}, (0, 1), ("nothing was compared",)),
 )
 
 
 def make_repository(folder, name, edits):
-    """A repository of one proved crate with these edits, and with the tests."""
+    """A repository of one crate with these edits, and with the tests."""
     shutil.copytree(ROOT / "tests", folder / "tests")
     (folder / "crates.txt").write_text(f"{name}: # alone\n", encoding="ascii")
     (folder / "crates" / name / "wrong").mkdir(parents=True)
@@ -178,36 +161,31 @@ def make_repository(folder, name, edits):
     return [folder / "tests" / "run", "wrong"]
 
 
-def make_small(folder, does, edits):
-    """The same with a crate that a stand-in checks; returns what is run, and its surroundings."""
-    own = folder / "kit" / "on" / os.uname().machine
-    for part in ("src", "specs", "proofs"):
-        (folder / "crates" / "small" / part).mkdir(parents=True)
-    (folder / "crates" / "small" / "src" / "lib.rt").write_text(f"{does}\necho logic=proved\nexit 0\n", encoding="ascii")
-    for library in (own / "rlib" / "std.rlib", folder / "target" / "rlib" / "small.rlib"):
-        (library / "toolchain" / "checked").mkdir(parents=True)
-        (library / "format").write_text("rattle-build some/version\n", encoding="ascii")
-    script(own / "bin" / "rattle", STAND_IN)
-    script(folder / "bin" / "rt", f"echo {folder}/kit/docs/START-HERE.md")
+def make_small(folder, said):
+    """The same with a stand-in for rt, which says of each edit what is given, and of none that does not stand in must-fail/; returns the surroundings, too."""
+    (folder / "crates" / "small" / "src").mkdir(parents=True)
+    lines = (f'test ! -e crates/small/must-fail/{name}.edit || echo "rt: must-fail small/{name}.edit: {words}"' for name, words in said.items() if words)
+    script(folder / "bin" / "rt", 'test "$*" = "must-fail small" || exit 2', *lines)
+    edits = {name: "# a wrong program\nfile: src/lib.rt\nold: 1\nnew: 2\n" for name in said}
     return make_repository(folder, "small", edits), OUTSIDE | {"PATH": f"{folder / 'bin'}:{os.environ['PATH']}"}
 
 
+def edit(new, old):
+    return f"# a wrong program\nfile: src/lib.rt\nold: {old}\nnew: {new}\n"
+
+
 def try_wrong(findings):
-    """The part wrong with a stand-in for the checker, and once with the checker itself on the smallest crate."""
-    for name, does, edits, expected, *says in WRONG:
+    """The part wrong with a stand-in for rt, and once with rt itself on the smallest crate."""
+    for name, said, expected, says in WRONG:
         with tempfile.TemporaryDirectory() as folder:
-            findings.check(GROUP, faults_of(*make_small(Path(folder), does, edits), expected, *says), b"", name)
+            findings.check(GROUP, faults_of(*make_small(Path(folder), said), expected, *says), b"", name)
     with tempfile.TemporaryDirectory() as folder:
-        command, outside = make_small(Path(folder), AS_PROVED, GOOD)
-        shutil.rmtree(Path(folder) / "target")
-        findings.check(GROUP, faults_of(command, outside, (0, 1), "run rt check"), b"", "a crate that was not proved")
-    with tempfile.TemporaryDirectory() as folder:
-        edits = {"place": edit("    at + 0", "    at + 1"), "remark": edit("// Puts a byte", "// Puts one byte")}
+        edits = {"place": edit("    at + 0", "    at + 1"), "remark": edit("// Puts one byte, at", "// Puts one byte at")}
         command = make_repository(Path(folder), "buffers", edits)
-        shutil.copytree(ROOT / "crates" / "buffers", Path(folder) / "crates" / "buffers", dirs_exist_ok=True, ignore=lambda *_: ("must-fail", "wrong"))
-        shutil.copytree(ROOT / "target" / "rlib" / "buffers.rlib", Path(folder) / "target" / "rlib" / "buffers.rlib")
-        faults = faults_of(command, OUTSIDE, (1, 1), "buffers/remark: TAKEN", f"{OVER_MODULES} 2")
-        findings.check(GROUP, faults, b"", "the checker itself")
+        shutil.copytree(ROOT / "crates" / "buffers", Path(folder) / "crates" / "buffers", dirs_exist_ok=True,
+                        ignore=lambda *_: ("must-fail", "wrong", "out"))
+        faults = faults_of(command, OUTSIDE, (1, 1), "buffers/remark: NOT REFUSED", "tried 2")
+        findings.check(GROUP, faults, b"", "rt itself")
 
 
 def run(findings):

@@ -4,7 +4,6 @@
 // verdict, translate, word test, join before and behind a table that is right, append, remove, useful states, useful pairs.
 #![tactic(auto)]
 
-use libc::STDOUT_FILENO;
 use transducer::{StateSet, Transducer, Transition, limits};
 
 // The calls.
@@ -18,67 +17,68 @@ const SHOWN: usize = limits::STATES;
 // The bytes of a line: the look has a space before it and a line end behind it.
 const LINE: usize = LOOK + SHOWN + 2;
 
-fn main() {
-    right_and_none();
-    too_many();
-    dead_end();
-    broken();
-    blank();
-    made();
+fn main(rt: HostRuntime) {
+    right_and_none(&rt);
+    too_many(&rt);
+    dead_end(&rt);
+    broken(&rt);
+    blank(&rt);
+    made(&rt);
 }
 
 // The one state that is start and final, and no state.
-fn right_and_none() {
+fn right_and_none(rt: &HostRuntime) {
     let none = StateSet::empty();
-    show(b"right   ", with_set(one_state(), none.with(0)));
-    show(b"none    ", with_set(one_state(), none));
+    show(rt, b"right   ", with_set(one_state(), none.with(0)));
+    show(rt, b"none    ", with_set(one_state(), none));
 }
 
 // With it, states that the table does not have.
-fn too_many() {
+fn too_many(rt: &HostRuntime) {
     let none = StateSet::empty();
     let zero = none.with(0);
-    show(b"beyond n", with_set(one_state(), zero.with(1)));
-    show(b"and 31  ", with_set(one_state(), zero.with(31)));
+    show(rt, b"beyond n", with_set(one_state(), zero.with(1)));
+    show(rt, b"and 31  ", with_set(one_state(), zero.with(31)));
 }
 
 // A second state, which does not finish: left out, and kept with all that is reached.
-fn dead_end() {
+fn dead_end(rt: &HostRuntime) {
     let none = StateSet::empty();
     let zero = none.with(0);
-    show(b"dead end", with_set(with_dead_end(one_state()), zero));
+    show(rt, b"dead end", with_set(with_dead_end(one_state()), zero));
     show(
+        rt,
         b"reached ",
         with_set(with_dead_end(one_state()), zero.with(1)),
     );
 }
 
 // A value that breaks a rule, of 40 states: the look shows what it keeps.
-fn broken() {
+fn broken(rt: &HostRuntime) {
     let none = StateSet::empty();
     let zero = none.with(0);
     let mut t = one_state();
     t.states = 40;
-    show(b"n is 40 ", with_set(t, zero.with(31)));
+    show(rt, b"n is 40 ", with_set(t, zero.with(31)));
 }
 
 // The blank table, with its own set, and with its state.
-fn blank() {
+fn blank(rt: &HostRuntime) {
     let none = StateSet::empty();
-    show(b"blank   ", with_set(transducer::blank(), none));
-    show(b"blank, 0", with_set(transducer::blank(), none.with(0)));
+    show(rt, b"blank   ", with_set(transducer::blank(), none));
+    show(rt, b"blank, 0", with_set(transducer::blank(), none.with(0)));
 }
 
 // What an edit and a join make: start 0, final 1 and a line between them, that line removed again, and the table before one state.
-fn made() {
+fn made(rt: &HostRuntime) {
     let none = StateSet::empty();
-    show(b"appended", appended());
+    show(rt, b"appended", appended());
     let edited = edits::remove(appended(), 0);
     let removed = edited.table;
-    show(b"removed ", removed);
+    show(rt, b"removed ", removed);
     let joined = series::join(appended(), with_set(one_state(), none.with(0)));
     let table = joined.table;
-    show(b"joined  ", table);
+    show(rt, b"joined  ", table);
 }
 
 // Start 0, final 1, to which an edit appends a line from 0 to 1 that reads and writes nothing.
@@ -122,7 +122,7 @@ fn with_set(mut t: Transducer, useful: StateSet) -> Transducer {
 }
 
 // Prints the line of t.
-fn show(name: &[u8; NAME], t: Transducer) {
+fn show(rt: &HostRuntime, name: &[u8; NAME], t: Transducer) {
     let mut line = [b' '; LINE];
     for i in 0..NAME {
         line[i] = name[i];
@@ -137,7 +137,9 @@ fn show(name: &[u8; NAME], t: Transducer) {
         line[LOOK + 1 + q] = flag(look.contains(q as u8));
     }
     line[LINE - 1] = b'\n';
-    streams::write(STDOUT_FILENO, b"wrongsets: standard output", &line);
+    let output = rt.stdout();
+    let errors = rt.stderr();
+    streams::write(&output, &errors, b"wrongsets: standard output", &line);
 }
 
 // 1 for a state that is shown, else 0.
