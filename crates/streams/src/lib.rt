@@ -3,7 +3,7 @@
 #![tactic(auto)]
 
 ghost use Rattle.std.specs.Prelude.{◌≡◌, ◌≤◌, length};
-ghost use Rattle.streams.specs.declared.Input.TheVariants.{Failed};
+ghost use Rattle.streams.specs.declared.Input.{Input};
 ghost use Rattle.streams.specs.Streams.{Told, ReadOn, StepOf};
 
 use std::fmt::InlineText;
@@ -54,7 +54,7 @@ pub fn read<R: Read, P: Print>(source: &mut R, errors: &P, what: &[u8], buf: &mu
 
 // Reports a failed read.
 fn failed<P: Print>(errors: &P, what: &[u8], error: io::Error) -> Input
-    ensures { result ≡ Failed }
+    ensures { result ≡ Input.Failed }
 {
     report(errors, what, error);
     Input::Failed
