@@ -417,7 +417,7 @@ YOTSELINA_CALL yotselina_remove(uint8_t *table, size_t table_length, size_t numb
  * nothing else.
  *
  * Refusals: 100; 8 for either table; 15, 16, 17.
- * Stack: 65,536 bytes.
+ * Stack: 69,632 bytes.
  */
 YOTSELINA_CALL yotselina_join(const uint8_t *first, size_t first_length,
                               const uint8_t *second, size_t second_length,

@@ -33,9 +33,8 @@ def numbers_of_code():
 
 
 def in_definitions(name):
-    """The name that a constant of the code has in the definitions: TOO_SHORT is too_short_of there."""
-    first, *words = name.lower().split("_")
-    return first + "".join(map(str.capitalize, words))
+    """The name that a constant of the code has in the definitions: MANY_PAIRS is many_pairs there."""
+    return "too_short_of" if name == "TOO_SHORT" else name.lower()
 
 
 def said_of_calls():

@@ -137,17 +137,19 @@ EDITS = {
     "taken": ("NOT REFUSED: it is proved", "NOT REFUSED"),
     "cannot_be_made": ("BAD EDIT: an 'old:' text is in src/lib.rt 0 times, and not once", "BAD EDIT"),
     "not_tried": ("NOT TRIED: its check was killed", "NOT TRIED"),
-    "shape": ("refused, as it must be (only because a proof file names what the edit took away, so this says little of the contract", "only its shape is refused"),
+    "shape": ("refused, as it must be (only because a proof file names what the edit took away, so this says little of the contract", "that it is refused shows nothing"),
+    "cannot_tell": ("refused, as it must be (only by a limit of the prover, which gave no verdict, so this says less of the contract", "that it is refused shows nothing"),
     "passed_over": (None, "nothing is said of it"),
 }
 GOOD = {"proof": AS_IT_MUST, "definition": AS_IT_MUST.replace("proofs/", "specs/")}
 
-# what is tried, what is said of each edit, expected counts, what the part says
+# what is tried, what is said of each edit, whether the crate is proved, expected counts, what the part says
 WRONG = (
-    ("edits that are refused", GOOD, (2, 0), ("tried 2",)),
-    ("edits that are not", GOOD | {name: said for name, (said, _) in EDITS.items()}, (2, len(EDITS)),
+    ("edits that are refused", GOOD, True, (2, 0), ("tried 2",)),
+    ("a crate that is not proved", GOOD, False, (0, 2), ("small/proof: its crate is not proved without it",)),
+    ("edits that are not", GOOD | {name: said for name, (said, _) in EDITS.items()}, True, (2, len(EDITS)),
      tuple(f"small/{name}: {says}" for name, (_, says) in EDITS.items())),
-    ("no edit", {}, (0, 1), ("nothing was compared",)),
+    ("no edit", {}, True, (0, 1), ("nothing was compared",)),
 )
 
 
@@ -161,31 +163,46 @@ def make_repository(folder, name, edits):
     return [folder / "tests" / "run", "wrong"]
 
 
-def make_small(folder, said):
-    """The same with a stand-in for rt, which says of each edit what is given, and of none that does not stand in must-fail/; returns the surroundings, too."""
+def make_small(folder, said, proved):
+    """The same with a stand-in for rt, which says whether the crate is proved, and then of each edit what is given, and of none that does not stand in
+    must-fail/; returns the surroundings, too."""
     (folder / "crates" / "small" / "src").mkdir(parents=True)
     lines = (f'test ! -e crates/small/must-fail/{name}.edit || echo "rt: must-fail small/{name}.edit: {words}"' for name, words in said.items() if words)
-    script(folder / "bin" / "rt", 'test "$*" = "must-fail small" || exit 2', *lines)
+    script(folder / "bin" / "rt", f'test "$1 $2" != "all check" || exit {0 if proved else 1}', 'test "$*" = "must-fail small" || exit 2', *lines)
     edits = {name: "# a wrong program\nfile: src/lib.rt\nold: 1\nnew: 2\n" for name in said}
     return make_repository(folder, "small", edits), OUTSIDE | {"PATH": f"{folder / 'bin'}:{os.environ['PATH']}"}
 
 
-def edit(new, old):
-    return f"# a wrong program\nfile: src/lib.rt\nold: {old}\nnew: {new}\n"
+def edit(new, old, file="src/lib.rt"):
+    return f"# a wrong program\nfile: {file}\nold: {old}\nnew: {new}\n"
+
+
+# edits of the smallest crate, and what rt itself says of those that are not refused for a fact
+REAL = {
+    "place": (edit("    at + 0", "    at + 1"), None),
+    "remark": (edit("// Puts one byte, at", "// Puts one byte at"), "NOT REFUSED"),
+    "no_type": (edit("    at + true", "    at + 1"), "BAD EDIT"),
+    "not_there": (edit("    at + 1", "    at + 5"), "BAD EDIT"),
+    "there_twice": (edit("at: u16", "at"), "BAD EDIT"),
+    "no_file": (edit("1", "2", "src/none.rt"), "BAD EDIT"),
+    "outside": (edit("    at + 0", "    at + 1", "src/../src/lib.rt"), "BAD EDIT"),
+    "nothing": ("# nothing\n", "BAD EDIT"),
+}
 
 
 def try_wrong(findings):
     """The part wrong with a stand-in for rt, and once with rt itself on the smallest crate."""
-    for name, said, expected, says in WRONG:
+    for name, said, proved, expected, says in WRONG:
         with tempfile.TemporaryDirectory() as folder:
-            findings.check(GROUP, faults_of(*make_small(Path(folder), said), expected, *says), b"", name)
-    with tempfile.TemporaryDirectory() as folder:
-        edits = {"place": edit("    at + 0", "    at + 1"), "remark": edit("// Puts one byte, at", "// Puts one byte at")}
-        command = make_repository(Path(folder), "buffers", edits)
-        shutil.copytree(ROOT / "crates" / "buffers", Path(folder) / "crates" / "buffers", dirs_exist_ok=True,
-                        ignore=lambda *_: ("must-fail", "wrong", "out"))
-        faults = faults_of(command, OUTSIDE, (1, 1), "buffers/remark: NOT REFUSED", "tried 2")
-        findings.check(GROUP, faults, b"", "rt itself")
+            findings.check(GROUP, faults_of(*make_small(Path(folder), said, proved), expected, *says), b"", name)
+    for name, proved in (("rt itself", True), ("rt itself, of a crate that is not proved", False)):
+        with tempfile.TemporaryDirectory() as folder:
+            edits = {label: text for label, (text, _) in REAL.items()} if proved else {"place": REAL["place"][0]}
+            command = make_repository(Path(folder), "buffers", edits)
+            shutil.copytree(ROOT / "crates" / "buffers", Path(folder) / "crates" / "buffers", dirs_exist_ok=True,
+                            ignore=lambda *_: ("must-fail", "wrong", "out", *(() if proved else ("put_byte",))))
+            says = [f"buffers/{label}: {said}" for label, (_, said) in REAL.items() if said] if proved else ["buffers/place: its crate is not proved without it"]
+            findings.check(GROUP, faults_of(command, OUTSIDE, (1, len(REAL) - 1) if proved else (0, 1), *says), b"", name)
 
 
 def run(findings):

@@ -11,13 +11,15 @@ import tempfile
 from pathlib import Path
 
 from means.programs import ROOT
+from means.settings import setting
 from means.tools import Missing
 
 GROUP = "wrong edit is refused"
 CRATES = ROOT / "crates"
 SAID = re.compile(r"^rt: must-fail (\w+)/(\w+)\.edit: (.*)$", re.MULTILINE)
 REFUSED = "refused, as it must be"
-SHAPE = f"{REFUSED} (only because a proof file names what the edit took away"
+# what says less than that a fact does not hold: that a proof file names what is gone, and that the prover came to a limit
+LESS = ("(only because a proof file names what the edit took away", "(only by a limit of the prover")
 
 
 def copy(folder, edits):
@@ -33,29 +35,38 @@ def copy(folder, edits):
         shutil.copy(edit, to)
 
 
+def run_rt(folder, *words):
+    try:
+        return subprocess.run(["rt", *words], cwd=folder, stdin=subprocess.DEVNULL, stdout=subprocess.PIPE, stderr=subprocess.STDOUT, text=True,
+                              errors="replace", check=False)
+    except OSError as error:
+        raise Missing(f"rt {' '.join(words)}: {error}") from error
+
+
 def try_all(edits):
-    """What rt says of each edit, by its crate and its name."""
+    """What rt says of each edit, by its crate and its name, once the crates are proved without them; None where they are not."""
     names = sorted({edit.parts[-3] for edit in edits})
     with tempfile.TemporaryDirectory() as place:
         folder = Path(place).resolve()
         copy(folder, edits)
-        try:
-            done = subprocess.run(["rt", "must-fail", *names], cwd=folder, stdin=subprocess.DEVNULL, stdout=subprocess.PIPE, stderr=subprocess.STDOUT,
-                                  text=True, errors="replace", check=False)
-        except OSError as error:
-            raise Missing(f"rt must-fail: {error}") from error
+        control = run_rt(folder, "all", "check", "--jobs", setting("TESTS_WORKERS"))
+        if control.returncode != 0:
+            return None, control.stdout[-600:]
+        done = run_rt(folder, "must-fail", *names)
     said = {(crate, name): words for crate, name, words in SAID.findall(done.stdout)}
     return said, done.stdout[-600:]
 
 
 def faults_of(edit, said, end):
-    """In what an edit is not refused by its crate's contracts: for a fact that no longer holds, and not for a name that is gone."""
+    """In what an edit is not refused by its crate's contracts: for a fact that no longer holds, and not for a name that is gone or at a limit."""
+    if said is None:
+        return [f"its crate is not proved without it, or one that stands beside it: .. {end}"]
     words = said.get((edit.parts[-3], edit.stem))
     if words is None:
         return [f"nothing is said of it: .. {end}"]
     if not words.startswith(REFUSED):
         return [words[:300]]
-    return [f"only its shape is refused: {words[:300]}"] if words.startswith(SHAPE) else []
+    return [f"that it is refused shows nothing: {words[:300]}"] if any(words.startswith(f"{REFUSED} {less}") for less in LESS) else []
 
 
 def run(findings):

@@ -34,7 +34,7 @@ MadeBy (joined m m') t = (first : Transducer) × (second : Transducer) × (r : J
 
 -- ---- the statement
 
--- what a look at such a transducer shows: `look` answers t .useful
+-- what a look at such a transducer shows: `look` answers t.useful
 pub record Looks (t : Transducer) : Type 0 where
   pub useful : (q : ℕ) → In t.useful q ↔ UsefulState t q
   -- and no call refuses it as 8

@@ -229,7 +229,7 @@ pub extern "C" fn yotselina_remove(table: &mut [u8], number: usize) -> u32
     answers::give_table(table, made, outcome.number() as u32)
 }
 
-// Joins two held tables in series; the joined table is held in `result`.
+// Joins two held tables in series; the joined table is held in `res` (the header's `result`).
 #[unsafe(no_mangle)]
 pub extern "C" fn yotselina_join(first: &[u8], second: &[u8], res: &mut [u8]) -> u32
     ensures { JoinGiven first.now second.now res.old res.new result }

@@ -20,7 +20,7 @@ pub passes-requires-clause-label : goal.passes-requires-clause-label
 passes-requires-clause-label c =
     let s = c.requires.testing in
     let m = s.measured.machine in
-    let z = c.loop-step.invariant.has c.loop-step-test.true in (
+    let z = c.loop-step.invariant.has (omega (arith, c.loop-step-test.true)) in (
       rw c.label-label.ensures (steps_promised.step_label m m z),
       omega (arith, c.target-j.ensures, steps_promised.target_low m m s.inside z),
     )
@@ -31,10 +31,10 @@ passes-requires-clause-seen c = let g = c.loop-step.invariant.going in seen_for 
 pub returns-then-not-passes-clause-tried : goal.returns-then-not-passes-clause-tried
 returns-then-not-passes-clause-tried c =
     let i = c.loop-step.invariant in
-    going_fails i.going (i.has c.loop-step-test.true) c.label-label.ensures c.target-j.ensures c.passes.ensures.passes c.if-not-passes.true
+    going_fails i.going (i.has (omega (arith, c.loop-step-test.true))) c.label-label.ensures c.target-j.ensures c.passes.ensures.passes c.if-not-passes.true
 
 pub step_after-step-requires-clause-steps : goal.step_after-step-requires-clause-steps
-step_after-step-requires-clause-steps c = c.loop-step.invariant.has c.loop-step-test.true
+step_after-step-requires-clause-steps c = c.loop-step.invariant.has (omega (arith, c.loop-step-test.true))
 
 pub loop-step-preserved : goal.loop-step-preserved
 loop-step-preserved c =
@@ -45,7 +45,7 @@ loop-step-preserved c =
       has = f.has;
       going =
           going_past
-          (going_step i.going (i.has c.loop-step-test.true) c.label-label.ensures c.target-j.ensures c.passes.ensures.passes c.if-not-passes.false c.passes.auto.x c.passes.auto.y c.passes.ensures.fronts_kept)
+          (going_step i.going (i.has (omega (arith, c.loop-step-test.true))) c.label-label.ensures c.target-j.ensures c.passes.ensures.passes c.if-not-passes.false c.passes.auto.x c.passes.auto.y c.passes.ensures.fronts_kept)
           (steps_promised.past_steps _ _ f (omega arith));
     }
 
