@@ -8,9 +8,9 @@ GROUP = "refusal numbers"
 UNUSED = 12  # no refusal has this number any more, and none gets it again
 CODE, DEFINITIONS, HEADER = "crates/transducer/src/refusals.rt", "crates/transducer/specs/Refusals.antt", "include/yotselina.h"
 MANUAL, DESK_TOOL = "docs/MANUAL.md", "cli/desktool/refusals.py"
-# where the numbers stand, and how: those of the constants with their names
+# where the numbers stand, and how, with their names: a case of the enum in the code, a constant in the definitions
 CONSTANTS = {
-    CODE: r"^pub const (\w+): u8 = (\d+);$",
+    CODE: r"^    (\w+) = (\d+),$",
     DEFINITIONS: r"^abbrev pub (\w+) : ℕ\n\1 = (\d+)$",
 }
 NAMED = "#define YOTSELINA_{} {}\n"  # each of them in the header, and its text
@@ -27,14 +27,19 @@ def found(place, pattern):
     return re.findall(pattern, (ROOT / place).read_text(encoding="utf-8"), re.MULTILINE)
 
 
+def constant(variant):
+    """The name that a case of the code's enum has as a constant: ManyPairs is MANY_PAIRS."""
+    return re.sub(r"(?<!^)(?=[A-Z])", "_", variant).upper()
+
+
 def numbers_of_code():
     """The numbers that refusals have in the code."""
     return [int(number) for _, number in found(CODE, CONSTANTS[CODE]) if int(number) != UNUSED]
 
 
 def in_definitions(name):
-    """The name that a constant of the code has in the definitions: MANY_PAIRS is many_pairs there."""
-    return "too_short_of" if name == "TOO_SHORT" else name.lower()
+    """The name that a case of the code has in the definitions: ManyPairs is many_pairs there."""
+    return "too_short_of" if name == "TooShort" else constant(name).lower()
 
 
 def said_of_calls():
@@ -54,13 +59,14 @@ def faults_of_numbers(numbers, expected):
 
 
 def check_numbers(findings):
-    """The constants of the code, the definitions and the header are the same, and their numbers stand in each of the lists; the header says each of
+    """The names of the code, the definitions and the header are the same, and their numbers stand in each of the lists; the header says each of
     some call, and has a text for it."""
     constants = {place: [(name, int(number)) for name, number in found(place, pattern)] for place, pattern in CONSTANTS.items()}
     other = sorted({(in_definitions(name), number) for name, number in constants[CODE]} ^ set(constants[DEFINITIONS]))
     findings.check_apart(GROUP, [f"{name} = {number} stands in one only" for name, number in other], b"", f"{CODE} and {DEFINITIONS}")
     header = (ROOT / HEADER).read_text(encoding="utf-8")
-    missing = [name for name, number in constants[CODE] if NAMED.format(name, number) not in header or TEXT.format(name) not in header]
+    missing = [name for name, number in constants[CODE]
+               if NAMED.format(constant(name), number) not in header or TEXT.format(constant(name)) not in header]
     findings.check_apart(GROUP, [f"no constant or no text: {missing}"] if missing else [], b"", f"{CODE} and {HEADER}")
     places = {place: [number for _, number in named] for place, named in constants.items()}
     places |= {place: [int(number) for number in found(place, pattern)] for place, pattern in LISTS.items()}

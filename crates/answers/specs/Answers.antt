@@ -1,11 +1,12 @@
 -- The numbers that an exported function returns, and what it puts into the lists that are lent.
-use Rattle.std.specs.Prelude.{◌≡◌, Bool, cond, List, [], ◌∷◌, map, ◌≢◌, ℕ, ◌+◌, ◌*◌, ltb, length}
+use Rattle.std.specs.Prelude.{◌≡◌, Bool, cond, List, [], ◌∷◌, map, ◌≢◌, ℕ, ◌+◌, ◌*◌, ltb, length, Result, Ok, Err}
 use Rattle.buffers.specs.Put.{put}
 use Rattle.transducer.specs.Refusals.{too_short_of, first_of}
 use Rattle.transducer.specs.declared.Transducer.{Transducer}
 use Rattle.words.specs.declared.Comparison.{Comparison}
 use Rattle.words.specs.declared.Comparison.TheVariants.{Level, FirstAhead, SecondAhead, Clash}
-use Rattle.functionality.specs.Decided.{verdict_of}
+use Rattle.transducer.specs.declared.refusals.Refusal.{Refusal}
+use Rattle.functionality.specs.Decided.{verdict_of, useful_of, counts_of}
 use Rattle.functionality.specs.declared.Verdict.{Verdict}
 use Rattle.engine.specs.Engine.{number_of, record_of}
 use Rattle.held.specs.Held.{flag_of, held_of}
@@ -60,10 +61,15 @@ kind_of SecondAhead = 2
 kind_of (Clash n) = 3
 
 -- a verdict: split, u, how many items stand in each buffer, and how many codes the two outputs have in common at the beginning
-unfoldable pub numbers_of : Verdict → List ℕ
+unfoldable pub numbers_of : Result Verdict Refusal → List ℕ
 numbers_of r =
-    verdict_of r.outcome ∷ r.useful ∷ r.counts.word ∷ r.counts.path_a ∷ r.counts.path_b ∷ r.counts.output_x ∷ r.counts.output_y
-    ∷ r.counts.shared ∷ []
+    verdict_of r ∷ useful_of r ∷ (counts_of r).word ∷ (counts_of r).path_a ∷ (counts_of r).path_b ∷ (counts_of r).output_x ∷ (counts_of r).output_y
+    ∷ (counts_of r).shared ∷ []
+
+-- what is listed; nothing with a refusal
+abbrev pub listed_of : {A : Type 0} → Result (List A) Refusal → List A
+listed_of (Ok items) = items
+listed_of (Err refusal) = []
 
 -- ---- how a call ends: it returns its refusal and leaves the list, or returns 0
 

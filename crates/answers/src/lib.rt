@@ -2,17 +2,19 @@
 // specs/Answers.antt.
 #![tactic(auto)]
 
-ghost use Rattle.std.specs.Prelude.{◌≡◌, map, ◌≤◌, length};
+ghost use Rattle.std.specs.Prelude.{◌≡◌, [], ◌∷◌, map, ◌≤◌, length, Ok};
 ghost use Rattle.buffers.specs.Put.{put};
+ghost use Rattle.transducer.specs.Refusals as refusals;
 ghost use Rattle.transducer.specs.Valid.{Shaped};
-ghost use Rattle.tablereader.specs.Outcome.{number_of, record_of};
-ghost use Rattle.functionality.specs.Decided as decision;
+ghost use Rattle.tablereader.specs.Outcome.{number_of, record_of, table_of_reading};
 ghost use Rattle.held.specs.Held.{flag_of, held_size};
-ghost use Rattle.answers.specs.Answers.{refusal_code, verdict_answer, kind_of, numbers_of, Given, Flagged, HeldIn};
+ghost use Rattle.answers.specs.Answers.{refusal_code, verdict_answer, kind_of, numbers_of, listed_of, Given, Flagged, HeldIn};
 
 use functionality::Verdict;
-use tablereader::Outcome;
-use transducer::{Transducer, refusals};
+use tablereader::FileRefusal;
+use transducer::Transducer;
+use transducer::refusals::Refusal;
+use witness::Counts;
 use words::Comparison;
 
 // How many numbers the answer to a verdict has: split, u, five counts, and how many codes the two outputs have in common.
@@ -28,14 +30,37 @@ pub const DIFFERENCE: usize = 2;
 // The answer to a writing: a byte count.
 pub const WRITE: usize = 1;
 
-// The refusal of a file, 0 where it is taken: its number in the low 16 bits, the record's number above.
-pub fn of_file(reader: Outcome) -> u32
-    ensures { result ≡ refusal_code (number_of reader) (record_of reader) }
+// The counts of a single verdict.
+const NO_WITNESS: Counts = Counts {
+    word: 0,
+    path_a: 0,
+    path_b: 0,
+    output_x: 0,
+    output_y: 0,
+    shared: 0,
+};
+
+// The refusal of a file, 0 where it is taken.
+// These answers stay numbers, 0 where nothing is refused: C takes them so (the header of `unit`).
+#[tactic(auto, unfolding(crate::specs::Answers::refusal_code))]
+pub fn of_file(reading: Result<Transducer, FileRefusal>) -> u32
+    ensures { result ≡ refusal_code (number_of reading) (record_of reading) }
 {
-    reader.number() as u32 + 65536 * reader.record() as u32
+    match reading {
+        Ok(_) => 0,
+        Err(refused) => code(refused),
+    }
 }
 
-// The number of a comparison: 0 level, 1 first ahead, 2 second ahead, 3 clash.
+// A refusal as one number: its own in the low 16 bits, the record's above.
+#[tactic(auto, unfolding(crate::specs::Answers::refusal_code))]
+fn code(refused: FileRefusal) -> u32
+    ensures { result ≡ refusal_code (refusals.refusal_number refused.refusal) refused.«record» }
+{
+    refused.refusal.number() as u32 + 65536 * refused.record as u32
+}
+
+// The number of a comparison: 0 level, 1 first ahead, 2 second ahead, 3 clash. No `From`, since the type is of another crate, and a clash carries a number.
 pub fn kind(comparison: Comparison) -> u64
     ensures { result ≡ kind_of comparison }
 {
@@ -47,75 +72,56 @@ pub fn kind(comparison: Comparison) -> u64
     }
 }
 
-// Ends a call: returns its refusal, and puts the numbers to the front of the answer list where there is none.
-pub fn give(answer: &mut [u64], numbers: &[u64], refusal: u8) -> u32
-    requires { length numbers.now ≤ length answer.old }
-    ensures { Given refusal numbers.now answer.old answer.new result }
+// Ends a call: puts its numbers to the front of the answer list, or returns its refusal.
+pub fn give<const N: usize>(answer: &mut [u64], numbers: Result<[u64; N], Refusal>) -> u32
+    requires { N ≤ length answer.old }
+    ensures { Given (refusals.number_of numbers.entry) (listed_of numbers.entry) answer.old answer.new result }
 {
-    if refusal != 0 {
-        return refusal as u32;
+    match numbers {
+        Ok(numbers) => {
+            answer[0..N].copy_from_slice(&numbers);
+            0
+        }
+        Err(refusal) => refusal.number() as u32,
     }
-    put_numbers(answer, numbers);
-    0
 }
 
 // The same for the eight numbers of a verdict.
-pub fn give_verdict(answer: &mut [u64], verdict: Verdict) -> u32
+pub fn give_verdict(answer: &mut [u64], verdict: Result<Verdict, Refusal>) -> u32
     requires { verdict_answer ≤ length answer.old }
-    ensures { Given (decision.number_of verdict.outcome) (numbers_of verdict) answer.old answer.new result }
+    ensures { Given (refusals.number_of verdict) (numbers_of verdict) answer.old answer.new result }
 {
-    let outcome = verdict.outcome;
-    let counts = verdict.counts;
-    let numbers = [
-        outcome.verdict() as u64,
-        verdict.useful as u64,
-        counts.word as u64,
-        counts.path_a as u64,
-        counts.path_b as u64,
-        counts.output_x as u64,
-        counts.output_y as u64,
-        counts.shared as u64,
-    ];
-    give(answer, &numbers, outcome.number())
+    give(answer, verdict.map(numbers))
 }
 
 // Ends a call that shows which of several things have a property: a flag for each at the front of `flags`, or the refusal, that of a list with fewer
 // places last.
-pub fn give_flags(flags: &mut [u8], members: &[bool], refusal: u8) -> u32
-    ensures { Flagged refusal members.now flags.old flags.new result }
+pub fn give_flags<const N: usize>(flags: &mut [u8], members: Result<[bool; N], Refusal>) -> u32
+    ensures { Flagged (refusals.number_of members.entry) (listed_of members.entry) flags.old flags.new result }
 {
-    if refusal != 0 {
-        return refusal as u32;
-    }
+    let members = match members {
+        Ok(members) => members,
+        Err(refusal) => return refusal.number() as u32,
+    };
     if flags.len() < members.len() {
-        return refusals::TOO_SHORT as u32;
+        return Refusal::TooShort.number() as u32;
     }
-    put_flags(flags, members);
+    put_flags(flags, &members);
     0
 }
 
 // Ends a call that makes a table: the table held at the front of `memory`, or the refusal.
-pub fn give_table(memory: &mut [u8], table: Transducer, refusal: u32) -> u32
-    requires shaped { Shaped table }
+pub fn give_table(memory: &mut [u8], made: Result<Transducer, FileRefusal>) -> u32
+    requires shaped { Shaped (table_of_reading made) }
     requires held_size_in_bounds { held_size ≤ length memory.old }
-    ensures { HeldIn refusal table memory.old memory.new result }
+    ensures { HeldIn (refusal_code (number_of made) (record_of made)) (table_of_reading made) memory.old memory.new result }
 {
-    if refusal != 0 {
-        return refusal;
-    }
-    held::hold(table, memory);
-    0
-}
-
-// Puts numbers to the front of a list.
-pub fn put_numbers(list: &mut [u64], numbers: &[u64])
-    requires { length numbers.now ≤ length list.old }
-    ensures { list.new ≡ put list.old 0 numbers.now }
-{
-    let mut i = 0;
-    while i < numbers.len() {
-        list[i] = numbers[i];
-        i += 1;
+    match made {
+        Ok(table) => {
+            held::hold(table, memory);
+            0
+        }
+        Err(refusal) => code(refusal),
     }
 }
 
@@ -124,9 +130,40 @@ fn put_flags(list: &mut [u8], flags: &[bool])
     requires { length flags.now ≤ length list.old }
     ensures { list.new ≡ put list.old 0 (map flag_of flags.now) }
 {
-    let mut i = 0;
-    while i < flags.len() {
-        list[i] = flags[i] as u8;
-        i += 1;
+    // Stays indexed: a zip with the front of the list is no plainer.
+    for (i, flag) in flags.iter().enumerate() {
+        list[i] = *flag as u8;
     }
+}
+
+// The eight numbers of a verdict.
+fn numbers(verdict: Verdict) -> [u64; VERDICT]
+    ensures { result ≡ numbers_of (Ok verdict) }
+{
+    let split = verdict.witness.is_some();
+    let counts = verdict.witness.unwrap_or(NO_WITNESS);
+    [
+        split as u64,
+        verdict.useful as u64,
+        counts.word as u64,
+        counts.path_a as u64,
+        counts.path_b as u64,
+        counts.output_x as u64,
+        counts.output_y as u64,
+        counts.shared as u64,
+    ]
+}
+
+// The answer of one number.
+pub fn one(number: usize) -> [u64; 1]
+    ensures { result ≡ number ∷ [] }
+{
+    [number as u64]
+}
+
+// The answer of a yes or a no.
+pub fn yes(says_yes: bool) -> [u64; 1]
+    ensures { result ≡ flag_of says_yes ∷ [] }
+{
+    [says_yes as u64]
 }

@@ -13,3 +13,13 @@ pub fn put_byte(out: &mut [u8], at: usize, b: u8) -> usize
     out[at] = b;
     at + 1
 }
+
+// Puts the bytes from the place `at` on, and returns the place behind them.
+pub fn put_bytes(out: &mut [u8], at: usize, bytes: &[u8]) -> usize
+    requires { Room out.old at bytes.now }
+    ensures { Puts out.old at bytes.now out.new result }
+{
+    let end = at + bytes.len();
+    out[at..end].copy_from_slice(bytes);
+    end
+}

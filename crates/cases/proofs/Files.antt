@@ -9,7 +9,7 @@ use Prim.Native.Nat.{ℕ}
 use native.Mathlib.Omega.{arith}
 use borrow.Author.Tests.{eqb-true}
 use lib.Dec.{eqb}
-use lib.ListN.{length}
+use lib.ListN.{length, take}
 use Rattle.words.specs.Difference.{shared_of}
 use Rattle.transducer.specs.Limits.{most_outputs}
 use Rattle.transducer.specs.StateSet.{has, with_state}
@@ -24,24 +24,27 @@ use Rattle.transducer.proofs.LineLaws.{made_shaped}
 use Rattle.records.specs.Byte.{byte_fault_of}
 use Rattle.records.specs.Field.{column_of, add_column_of, field_of}
 use Rattle.records.specs.Number.{columns_of, leadings_of, leading_of}
-use Rattle.records.specs.Reading.{first, number_at, fields_fault, values_at, record_fault, record_at}
+use Rattle.records.specs.Reading.{number_at, fields_fault, values_at, record_fault, record_at}
 use Rattle.records.specs.Record.{fields_of, record_bytes, counted_bytes}
 use Rattle.tablereader.specs.Header.{header_of}
-use Rattle.tablereader.specs.Outcome.{number_of, outcome_for, ◌▸◌}
+use Rattle.std.specs.Prelude.{Result}
+use Rattle.transducer.specs.declared.refusals.Refusal.{Refusal}
+use Rattle.tablereader.specs.Outcome.{number_of, table_of_reading}
 use Rattle.tablereader.specs.Reader.{end_fault_of, starts_of, finals_of, transitions_of, outcome_with, read_of}
 use Rattle.tablereader.specs.States.{state_record_of, read_states_of, states_from}
 use Rattle.tablereader.specs.Transitions.{count_at, transition_record_of, read_transitions_of, transitions_from}
 use Rattle.tablewriter.specs.File.{state_at, states_below, size_of, state_bytes, transition_bytes, transition_bytes_below, header_bytes, write_of}
-use Rattle.tablereader.specs.declared.Reading.{Reading}
 use Rattle.tablefile.specs.RoundTrips.{taken_as}
 use Rattle.tablefile.proofs.RoundTrips.{round_trips}
 use Rattle.listing.specs.Listing.{witness_listing, verdict_listing, refusal_listing, translation_listing}
 use Rattle.buffers.specs.Put.{put}
-use Rattle.witness.specs.Showing.{Buffers, buffers_of, put_all, counts_of}
+use Rattle.witness.specs.Showing.{Buffers, buffers_of, put_all, counts_of, x_in, y_in}
 use Rattle.functionality.specs.Decided.{Decided}
 use Rattle.functionality.specs.declared.Verdict.{Verdict}
-use Rattle.engine.specs.Engine.{Taken, table_of, judgement_of}
+use Rattle.engine.specs.Engine.{Taken, table_of, on_file}
+use Rattle.engine.proofs.EngineLaws.{number_on, split_on, useful_on, counts_on}
 use Rattle.report.specs.Report.{lent, judgement_listing}
+use Rattle.report.proofs.ReportLaws.{verdict_listed}
 use Rattle.report.proofs.PrintedLaws.{lent_full}
 use Rattle.cases.specs.Cases.{set_of_states, table_p, table_d}
 use Rattle.cases.specs.Files.{bytes, lines, FileCase, FileHolds, file_p, file_d, with_line, files, listing_p, PrintedP, Listings}
@@ -88,7 +91,7 @@ read_back {t} a s e = ap read_of (sym e) ∙ round_trips.read_written t a s
 -- ---- every case
 
 each_file : Each FileHolds files
-unfolding files read_of outcome_with header_of starts_of finals_of transitions_of end_fault_of outcome_for ◌▸◌ state_record_of read_states_of states_from count_at transition_record_of read_transitions_of transitions_from byte_fault_of column_of add_column_of field_of first number_at fields_fault values_at record_fault record_at file_p with_line lines bytes
+unfolding files read_of outcome_with header_of starts_of finals_of transitions_of end_fault_of state_record_of read_states_of states_from count_at transition_record_of read_transitions_of transitions_from byte_fault_of column_of add_column_of field_of number_at fields_fault values_at record_fault record_at file_p with_line lines bytes
 each_file =
     (P_written, read_back P_valid P_shaped P_written)
     also (D_written, read_back D_valid D_shaped D_written)
@@ -137,22 +140,24 @@ listings = record { single = refl; split = refl; refusal = refl; output = refl; 
 abbrev shown_p : Buffers
 shown_p = buffers_of (1 ∷ []) (0 ∷ []) (1 ∷ []) (5 ∷ []) (6 ∷ [])
 
-P_listed : judgement_listing (record { number = 0; «record» = 0; split = true; useful = 1; counts = counts_of shown_p }) (put_all lent shown_p) ≡ listing_p
-unfolding judgement_listing verdict_listing witness_listing counted_bytes record_bytes fields_of flat_map columns_of leadings_of leading_of listing_p lines bytes put shared_of
+P_listed : let b = put_all lent shown_p in let c = counts_of shown_p in
+    verdict_listing true 1 (take c.word b.word) (take c.path_a b.path_a) (take c.path_b b.path_b) (x_in b c) (y_in b c) c.shared ≡ listing_p
+unfolding verdict_listing witness_listing counted_bytes record_bytes fields_of flat_map columns_of leadings_of leading_of listing_p lines bytes put shared_of
 P_listed = refl
 
 P_table : table_of file_p ≡ table_p
-P_table = ap (λ (r : Reading). r.table) (read_back P_valid P_shaped P_written)
+P_table = ap table_of_reading (read_back P_valid P_shaped P_written)
 
 P_taken : Taken file_p
-P_taken = ap (λ (r : Reading). number_of r.outcome) (read_back P_valid P_shaped P_written)
+P_taken = ap number_of (read_back P_valid P_shaped P_written)
 
 -- what any verdict on it answers and shows
-P_judged : (b : Buffers) (v : Verdict) → Decided table_p lent b v → judgement_listing (judgement_of v) b ≡ listing_p
+P_judged : (b : Buffers) (v : Result Verdict Refusal) → Decided table_p lent b v → judgement_listing (on_file v) b ≡ listing_p
 P_judged b v d =
     let answers = P_holds.0.answers lent b v lent_full d in
     let shows = P_holds.1 lent b v lent_full d in
-    rw (answers.number, answers.answer, answers.useful, shows.counts, shows.filled) P_listed
+    verdict_listed (on_file v) b (number_on v ∙ answers.number)
+    ∙ rw (split_on v, useful_on v, counts_on v, answers.answer, answers.useful, shows.counts, shows.filled) P_listed
 
 pub printed_p : PrintedP
 printed_p out₀ out n r =

@@ -35,9 +35,9 @@ pub data FileCase : Type 0 where
 
 abbrev pub FileHolds : FileCase → Type 0
 FileHolds (file_of text t) = (write_of t ≡ text) × (read_of text ≡ taken_as t)
-FileHolds (taken text) = number_of (read_of text).outcome ≡ 0
+FileHolds (taken text) = number_of (read_of text) ≡ 0
 FileHolds (refused text number record_number) =
-    (number_of (read_of text).outcome ≡ number) × (record_of (read_of text).outcome ≡ record_number)
+    (number_of (read_of text) ≡ number) × (record_of (read_of text) ≡ record_number)
 
 -- table P as document 01 prints it
 unfoldable pub file_p : List ℕ

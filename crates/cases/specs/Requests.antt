@@ -1,21 +1,19 @@
 -- Document 02's numbers, limits and orders on small words and tables, one small join and edits, written out: what its words say, a second time.
 -- `requests` is the list; proofs/Requests.antt shows that every case of it holds.
-use Rattle.std.specs.Prelude.{◌≡◌, true, List, [], ◌∷◌, ℕ, replicate}
+use Rattle.std.specs.Prelude.{◌≡◌, Bool, true, List, [], ◌∷◌, ℕ, replicate, Result}
 use Rattle.words.specs.Difference.{difference_of, carried_of}
 use Rattle.transducer.specs.Blank.{blank_transducer}
 use Rattle.transducer.specs.Lines.{transducer_of}
+use Rattle.transducer.specs.Refusals.{number_of}
+use Rattle.transducer.specs.declared.refusals.Refusal.{Refusal}
 use Rattle.transducer.specs.declared.Transition.{Transition}
 use Rattle.transducer.specs.declared.Transducer.{Transducer}
-use Rattle.wordtest.specs.Numbers as word
 use Rattle.wordtest.specs.Tested.{Tested}
-use Rattle.wordtest.specs.declared.Acceptance.{Acceptance}
 use Rattle.witness.specs.Showing.{Buffers, x_in, y_in}
-use Rattle.functionality.specs.Decided.{full_of, Decided}
+use Rattle.functionality.specs.Decided.{full_of, counts_of, Decided}
 use Rattle.functionality.specs.declared.Verdict.{Verdict}
 use Rattle.series.specs.Join as join
-use Rattle.series.specs.declared.Joined.{Joined}
 use Rattle.edits.specs.Edits as edit
-use Rattle.edits.specs.declared.Edited.{Edited}
 use Rattle.cases.specs.Cases.{transition_with, set_of_states, one_state_of, two_lines, table_p, silent}
 
 -- ---- the kinds of cases
@@ -39,16 +37,18 @@ pub data Request : Type 0 where
 
 -- every answer that meets the contract is what the case says
 abbrev pub RequestHolds : Request → Type 0
-RequestHolds (tested t input output number) = (r : Acceptance) → Tested t input output r → word.number_of r ≡ number
-RequestHolds (joined first second t) = (r : Joined) → join.JoinedOf first second r → (join.number_of r.outcome ≡ 0) × (r.table ≡ t)
+RequestHolds (tested t input output number) = (r : Result Bool Refusal) → Tested t input output r → number_of r ≡ number
+RequestHolds (joined first second t) =
+    (r : Result Transducer Refusal) → join.JoinedOf first second r → (number_of r ≡ 0) × (join.joined_of r ≡ t)
 RequestHolds (not_joined first second number) =
-    (r : Joined) → join.JoinedOf first second r → (join.number_of r.outcome ≡ number) × (r.table ≡ blank_transducer)
-RequestHolds (edited t e t') = (r : Edited) → edit.EditedBy t e r → (edit.number_of r.outcome ≡ 0) × (r.table ≡ t')
-RequestHolds (not_edited t e number) = (r : Edited) → edit.EditedBy t e r → (edit.number_of r.outcome ≡ number) × (r.table ≡ t)
+    (r : Result Transducer Refusal) → join.JoinedOf first second r → (number_of r ≡ number) × (join.joined_of r ≡ blank_transducer)
+RequestHolds (edited t e t') = (r : Result Transducer Refusal) → edit.EditedBy t e r → (number_of r ≡ 0) × (edit.edited_of t r ≡ t')
+RequestHolds (not_edited t e number) =
+    (r : Result Transducer Refusal) → edit.EditedBy t e r → (number_of r ≡ number) × (edit.edited_of t r ≡ t)
 RequestHolds (carries x y n) = carried_of (difference_of x y) ≡ n
 RequestHolds (agree t x y n) =
-    (b b' : Buffers) (r : Verdict) → full_of b ≡ true → Decided t b b' r
-    → (x_in b' r.counts ≡ x) × (y_in b' r.counts ≡ y) × (r.counts.shared ≡ n)
+    (b b' : Buffers) (r : Result Verdict Refusal) → full_of b ≡ true → Decided t b b' r
+    → (x_in b' (counts_of r) ≡ x) × (y_in b' (counts_of r) ≡ y) × ((counts_of r).shared ≡ n)
 
 -- ---- tables
 

@@ -3,11 +3,11 @@ use mathlib.Core.Path.{◌≡◌, refl, sym, ap, ◌∙◌}
 use mathlib.Core.Bool.{Bool, true, false, ◌||◌, true≢false}
 use mathlib.Core.List.{List}
 use mathlib.Core.Logic.{◌≢◌, ◌⊎◌, inl, inr, ⊎_elim}
-use Prim.Native.Nat.{ℕ, ◌+◌, ◌<◌}
+use Prim.Native.Nat.{ℕ, zero, suc, ◌+◌, ◌<◌}
 use native.Mathlib.Decide.{ℕ_discrete}
 use native.Mathlib.Omega.{arith}
 use borrow.Author.Count.{below_more}
-use lib.ListN.{length, get_or, set, length-set}
+use lib.ListN.{length, get_or, set, replicate, length-set, length-replicate}
 use lib.Seq.{get_or-set_same, get_or-set_other}
 use Rattle.transducer.specs.Limits.{most_states}
 use Rattle.worklist.specs.Lists.{zeros}
@@ -16,9 +16,19 @@ use Rattle.closure.specs.Closure.{flag_at_of, most_flags, Set, Own, Takes, Joins
 
 -- ---- the loop of `own`
 
-pub own_none : {list : List ℕ} → length list ≡ most_flags → ((i : ℕ) → get_or list i 0 ≡ 0) → Own 0 list
-own_none size clear =
-    record { size = size; own = λ q h. absurd (omega arith); only = λ i h. absurd (omega (arith, clear i)) }
+-- a fresh list holds 0 everywhere
+pub fresh_clear : (n i : ℕ) → ◌≡◌ {A = ℕ} (get_or (replicate n 0) i 0) 0
+fresh_clear zero i = refl
+fresh_clear (suc n) zero = refl
+fresh_clear (suc n) (suc i) = fresh_clear n i
+
+pub own_none : Own 0 (replicate most_flags 0)
+own_none =
+    record {
+      size = length-replicate {A = ℕ} most_flags 0;
+      own = λ q h. absurd (omega arith);
+      only = λ i h. absurd (omega (arith, fresh_clear most_flags i));
+    }
 
 pub own_more : {n : ℕ} {list : List ℕ} → n < most_states → Own n list → Own (n + 1) (set list (flag_at_of n n) 1)
 own_more {n} {list} low h =
@@ -64,7 +74,7 @@ module _ {q s : ℕ} where
         fewer = λ e. absurd (true≢false (sym e));
       }
 
-  module _ {n : ℕ} {list list' list'' : List ℕ} {r r' : Bool} (first : q < most_states) (second : s < most_states) (size : length list ≡ most_flags) (low : n < most_states) where
+  module _ {n : ℕ} {list list' list'' : List ℕ} {r r' : Bool} (first : q < most_states) (second : s < most_states) (low : n < most_states) where
     pub joins_more : Joins q s n list list' r → Takes (flag_at_of q n) (flag_at_of s n) list' list'' r' → Joins q s (n + 1) list list'' (r || r')
     joins_more h (Takes.old k e d) =
         rw e
@@ -85,7 +95,7 @@ module _ {q s : ℕ} where
             go : (b : Bool) → r ≡ b → (b || r') ≡ true → b ≡ true
             go true y z = refl
             go false y z = absurd (true≢false (sym z ∙ d))
-    joins_more h (Takes.new k z e d) =
+    joins_more h (Takes.new inside k z e d) =
         let l = length-set list' (flag_at_of q n) 1 in
         record {
           size = ap length e ∙ l ∙ h.size;
@@ -96,9 +106,6 @@ module _ {q s : ℕ} where
           fewer = less_either r r' (λ y. ap zeros (h.same y)) h.fewer (λ y. absurd (true≢false (sym d ∙ y))) (λ y. fewer);
         }
       where
-        inside : flag_at_of q n < length list'
-        inside = omega (arith, h.size)
-
         fewer : zeros list'' < zeros list'
         fewer = omega (arith, ap zeros e, zeros_set list' (flag_at_of q n) 0 inside z)
 

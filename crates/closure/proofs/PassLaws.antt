@@ -73,33 +73,15 @@ module _ {m written : List ℕ} where
             (followed_closed f o.1);
         fewer = less_either r r' (λ z. ap zeros (h.same z)) h.fewer (λ z. ap zeros (followed_same f z)) (followed_fewer f);
       }
-  -- ---- the loop of `close`
 
--- 1 for true
-abbrev pub bit : Bool → ℕ
-bit true = 1
-bit false = 0
-
--- the flags are right; and closed, where the last pass brought nothing
-pub record Closing (m written list : List ℕ) (changed : Bool) : Type 0 where
-  pub sound : Sound m written list
-  pub closed : changed ≡ false → (k : ℕ) → k < count_of m → (q s p : ℕ) → Empty m written q k s → Set list s p → Set list q p
+-- ---- the loop of `new`
 
 module _ {m written : List ℕ} where
-  pub closing_none : {list : List ℕ} → Own most_states list → Closing m written list true
-  closing_none h = record { sound = own_sound h; closed = λ e. absurd (true≢false e) }
-
-  pub closing_more : {list list' : List ℕ} {r : Bool} → Passed m written (count_of m) list list' r → Closing m written list' r
-  closing_more h = record { sound = h.sound; closed = h.closed }
-
-  pub closing_less : {list list' : List ℕ} (r : Bool) → Passed m written (count_of m) list list' r → zeros list' + bit r < zeros list + 1
-  closing_less true h = omega (arith, h.fewer refl)
-  closing_less false h = omega (arith, ap zeros (h.same refl))
-
-  pub closing_all : {list : List ℕ} {changed : Bool} → Machine m → changed ≡ false → Closing m written list changed → ClosureOf m written list
-  closing_all {list} machine e h = record { size = h.sound.size; all = all; only = h.sound.only }
+  -- after a pass that brings nothing the flags tell the closures
+  pub closed_all : {list list' : List ℕ} {r : Bool} → Machine m → r ≡ false → Passed m written (count_of m) list list' r → ClosureOf m written list'
+  closed_all {list} {list'} machine e h = record { size = h.sound.size; all = all; only = h.sound.only }
     where
-      all : (q p : ℕ) → q < most_states → Silent m written q p → Set list q p
+      all : (q p : ℕ) → q < most_states → Silent m written q p → Set list' q p
       all q p b (Silent.stay s) = rw (← s) (h.sound.own q b)
       all q p b (Silent.step {s = s} x r) =
           h.closed e _ x.leaves.used q s p x (all s p (rw x.enters at (machine.to_state _ x.leaves.used)) r)

@@ -2,8 +2,8 @@
 use Rattle.std.specs.Prelude.{◌≡◌, Bool, true, false, List, ◌⊎◌, ℕ, ◌*◌, ◌+◌, ◌<◌, length, get_or, set}
 use Rattle.transducer.specs.Limits.{most_states}
 use Rattle.worklist.specs.Lists.{zeros}
-use Rattle.product.specs.Machine.{key_of, from_of, to_of, Leaves, Machine}
-use Rattle.outputs.specs.Outputs.{count_at, Outputs}
+use Rattle.product.specs.Machine.{key_of, from_of, to_of, Leaves}
+use Rattle.outputs.specs.Outputs.{count_at}
 
 -- transition l of a machine leads from q to p, reads nothing and writes nothing
 pub record Empty (m written : List ℕ) (q l p : ℕ) : Type 0 where
@@ -39,11 +39,6 @@ pub record ClosureOf (m written list : List ℕ) : Type 0 where
 
 -- ---- how it is made
 
--- what is lent: a machine, and what its transitions write
-pub record Lent (m written : List ℕ) : Type 0 where
-  pub machine : Machine m
-  pub outputs : Outputs written
-
 -- each state is in its own closure, and what is flagged is in it
 pub record Sound (m written list : List ℕ) : Type 0 where
   pub size : length list ≡ most_flags
@@ -58,7 +53,7 @@ pub record Own (n : ℕ) (list : List ℕ) : Type 0 where
 
 -- what `take` leaves; r says whether the flag is new
 pub data Takes (to from : ℕ) (list list' : List ℕ) (r : Bool) : Type 0 where
-  new : 0 < get_or list from 0 → get_or list to 0 ≡ 0 → list' ≡ set list to 1 → r ≡ true → Takes to from list list' r
+  new : to < length list → 0 < get_or list from 0 → get_or list to 0 ≡ 0 → list' ≡ set list to 1 → r ≡ true → Takes to from list list' r
   old : (0 < get_or list from 0 → 0 < get_or list to 0) → list' ≡ list → r ≡ false → Takes to from list list' r
 
 -- what `join` leaves after the states below n: q has the flags that s had, too; r says whether one is new

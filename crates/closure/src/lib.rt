@@ -1,108 +1,123 @@
-// For each state the states that transitions which read nothing and write nothing lead to from it, as one list of flags: the flag of q and p stands at
-// the place 32 q + p. The contracts cite specs/Closure.antt.
+// For each state the states that transitions which read nothing and write nothing lead to from it. The contracts cite specs/Closure.antt.
 #![tactic(auto)]
 
-ghost use Rattle.std.specs.Prelude.{◌≡◌, ℕ, ◌<◌, length, get_or};
+ghost use Rattle.std.specs.Prelude.{◌≡◌, ◌<◌, ◌+◌, List, ℕ, length};
+ghost use Rattle.std.specs.List.{between};
 ghost use Rattle.transducer.specs.Limits.{most_states};
 ghost use Rattle.product.specs.Machine.{count_of};
-ghost use Rattle.closure.specs.Closure.{most_flags, Lent, Sound, ClosureOf, Own, Takes, Joins, Followed, Passed};
+ghost use Rattle.closure.specs.Closure.{most_flags, flag_at_of, Sound, ClosureOf, Own, Takes, Joins, Followed, Passed};
 
-use product::machine;
+use outputs::Outputs;
+use product::machine::Machine;
+use std::marker::Model;
 use transducer::limits::STATES;
 
 // The places of the list.
-pub const FLAGS: usize = STATES * STATES;
+const FLAGS: usize = STATES * STATES;
 
-// Makes the list, in one that holds 0 everywhere: each state is in its own closure; then, pass after pass, a state that such a transition leaves takes
-// over the closure of the one that it enters, until a pass brings nothing new.
-pub fn close(m: &[u16], written: &[u8], list: &mut [u8])
-    requires lent { Lent m.now written.now }
-    requires list_len { length list.old ≡ most_flags }
-    requires by_index { (i : ℕ) → get_or list.old i 0 ≡ 0 }
-    ensures { ClosureOf m.now written.now list.new }
-{
-    own(list);
-    let mut changed = true;
-    while changed {
-        changed = pass(m, written, list);
-    }
+// The closures of all states, as one list of flags: the flag of q and p stands at the place 32 q + p. Flags stay numbers, 0 or 1: 32 of them are marked at
+// once as the larger of two bytes, and the passes end since fewer of them are 0 each time (`zeros`).
+#[derive(Drop)]
+pub struct Closures {
+    flags: [u8; FLAGS],
 }
 
-// Puts each state into its own closure.
-fn own(list: &mut [u8])
-    requires list_len { length list.old ≡ most_flags }
-    requires by_index { (i : ℕ) → get_or list.old i 0 ≡ 0 }
-    ensures { Own most_states list.new }
-{
-    for q in 0..STATES {
-        list[q * STATES + q] = 1;
-    }
+impl Model for Closures {
+    ghost Value = { List ℕ };
+
+    ghost view = { λ c. c.flags };
+
+    ghost invariant = { λ c. length c.flags ≡ most_flags };
 }
 
-// Goes through the transitions once; whether a flag is new.
-fn pass(m: &[u16], written: &[u8], list: &mut [u8]) -> bool
-    requires lent { Lent m.now written.now }
-    requires sound { Sound m.now written.now list.old }
-    ensures { Passed m.now written.now (count_of m.now) list.old list.new result }
-{
-    let count = machine::count(m);
-    let mut changed = false;
-    let mut l: u16 = 0;
-    while l < count {
-        let fresh = follow(m, written, l, list);
-        changed = changed | fresh;
-        l += 1;
+impl Closures {
+    // The closures: each state is in its own; then, pass after pass, a state that such a transition leaves takes over the closure of the one that it
+    // enters, until a pass brings nothing new.
+    pub fn new(m: &Machine, written: &Outputs) -> Self
+        ensures { ClosureOf m.now written.now result }
+    {
+        m.kept();
+        let mut closures = Closures::own();
+        'passes: while closures.pass(m, written) {}
+        closures
     }
-    changed
-}
 
-// What transition l brings: nothing where it reads or writes something; whether a flag is new.
-fn follow(m: &[u16], written: &[u8], l: u16, list: &mut [u8]) -> bool
-    requires lent { Lent m.now written.now }
-    requires l_bound { l < count_of m.now }
-    requires list_len { length list.old ≡ most_flags }
-    ensures { Followed m.now written.now l list.old list.new result }
-{
-    if machine::key(m, l) != 0 {
-        return false;
+    // The flags of the states in the closure of q.
+    pub fn row(&self, q: u16) -> &[u8]
+        requires { q < most_states }
+        ensures value { result.now ≡ between (flag_at_of q 0) (flag_at_of q most_states) self.now }
+        ensures len { length result.now ≡ most_states }
+    {
+        let first = q as usize * STATES;
+        &self.flags[first..first + STATES]
     }
-    if outputs::count(written, l as u32) != 0 {
-        return false;
-    }
-    join(machine::from(m, l), machine::to(m, l), list)
-}
 
-// The state q takes over the flags of the state s; whether one is new.
-fn join(q: u16, s: u16, list: &mut [u8]) -> bool
-    requires q_lt_most_states { q < most_states }
-    requires s_lt_most_states { s < most_states }
-    requires list_len { length list.old ≡ most_flags }
-    ensures { Joins q s most_states list.old list.new result }
-{
-    let to = q as usize * STATES;
-    let from = s as usize * STATES;
-    let mut changed = false;
-    let mut p: usize = 0;
-    while p < STATES {
-        let fresh = take(list, to + p, from + p);
-        changed = changed | fresh;
-        p += 1;
+    // Each state alone in its own closure.
+    fn own() -> Self
+        ensures { Own most_states result }
+    {
+        let mut flags = [0; FLAGS];
+        for q in 0..STATES {
+            flags[q * STATES + q] = 1;
+        }
+        Closures { flags }
     }
-    changed
-}
 
-// Sets the flag at the place `to` if that at `from` is set; whether it is new.
-fn take(list: &mut [u8], to: usize, from: usize) -> bool
-    requires to_in_bounds { to < length list.old }
-    requires from_in_bounds { from < length list.old }
-    ensures { Takes to from list.old list.new result }
-{
-    if list[from] == 0 {
-        return false;
+    // Goes through the transitions once; whether a flag is new.
+    fn pass(&mut self, m: &Machine, written: &Outputs) -> bool
+        requires { Sound m.now written.now self.old }
+        ensures { Passed m.now written.now (count_of m.now) self.old self.new result }
+    {
+        let mut changed = false;
+        for l in 0..m.count() {
+            changed |= self.follow(m, written, l);
+        }
+        changed
     }
-    if list[to] != 0 {
-        return false;
+
+    // What transition l brings: nothing where it reads or writes something; whether a flag is new.
+    fn follow(&mut self, m: &Machine, written: &Outputs, l: u16) -> bool
+        requires { l < count_of m.now }
+        ensures { Followed m.now written.now l self.old self.new result }
+    {
+        m.kept();
+        if m.key(l) != 0 {
+            return false;
+        }
+        if written.count(u32::from(l)) != 0 {
+            return false;
+        }
+        self.join(m.from(l), m.to(l))
     }
-    list[to] = 1;
-    true
+
+    // The state q takes over the flags of the state s; whether one is new.
+    fn join(&mut self, q: u16, s: u16) -> bool
+        requires q_lt_most_states { q < most_states }
+        requires s_lt_most_states { s < most_states }
+        ensures { Joins q s most_states self.old self.new result }
+    {
+        let to = q as usize * STATES;
+        let from = s as usize * STATES;
+        let mut changed = false;
+        for p in 0..STATES {
+            changed |= self.take(to + p, from + p);
+        }
+        changed
+    }
+
+    // Sets the flag at the place `to` if that at `from` is set; whether it is new.
+    fn take(&mut self, to: usize, from: usize) -> bool
+        requires to_in_bounds { to < most_flags }
+        requires from_in_bounds { from < most_flags }
+        ensures { Takes to from self.old self.new result }
+    {
+        if self.flags[from] == 0 {
+            return false;
+        }
+        if self.flags[to] != 0 {
+            return false;
+        }
+        self.flags[to] = 1;
+        true
+    }
 }

@@ -55,9 +55,9 @@ module _ {link label : List ℕ} (links : Links link label) where
         word = λ right. ap (written_on written right) way;
       }
 
-  -- the same, the link being given as a number
-  pub onward_to : (written : List ℕ) {v next : ℕ} → Led link label v → next ≡ get_or link v 0 → 0 < next → Onward link label written v (next - 1)
-  onward_to written l e h = rw e (onward written l (λ z. omega arith))
+  -- the same, the pair being given
+  pub onward_to : (written : List ℕ) {v next : ℕ} → Led link label v → get_or link v 0 ≡ next + 1 → Onward link label written v next
+  onward_to written {v} {next} l e = let n : get_or link v 0 - 1 ≡ next = omega arith in rw n at (onward written l (λ z. omega arith))
 
 -- where no link leads on, nothing more is written
 pub word_ends : {link label : List ℕ} (written : List ℕ) {v : ℕ} → Led link label v → get_or link v 0 ≡ 0 → (right : Bool)

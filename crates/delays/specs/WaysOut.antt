@@ -5,7 +5,7 @@ use Rattle.worklist.specs.Search.{Chain}
 use Rattle.worklist.specs.Links.{way_from}
 use Rattle.product.specs.Numbers.{most_pairs, Label}
 use Rattle.witness.specs.Sides.{taken_of}
-use Rattle.outputs.specs.Outputs.{codes_at, Outputs}
+use Rattle.outputs.specs.Outputs.{codes_at, Entries}
 
 -- a way out has fewer steps than there are pairs, and one side of it at most so many codes
 abbrev pub most_way : ℕ
@@ -23,7 +23,7 @@ pub record Links (link label : List ℕ) : Type 0 where
 
 -- the lists have their lengths
 pub record Lists (written link label : List ℕ) : Type 0 where
-  pub outputs : Outputs written
+  pub outputs : Entries written
   pub links : Links link label
 
 -- a pair from which the links lead to a pair that has none, fewer than there are pairs
@@ -69,3 +69,20 @@ pub record Grounds (written link label gap : List ℕ) : Type 0 where
   pub long_gap : length gap ≡ most_pairs
   pub ways : (v : ℕ) → v < most_pairs → get_or gap v 0 ≢ 0 → Led link label v
   pub gaps : (v : ℕ) → v < most_pairs → get_or gap v 0 ≢ 0 → GapIs written link label v (get_or gap v 0)
+
+-- the four lists of the ways out
+pub record WayLists : Type 0 where
+  pub written : List ℕ
+  pub link : List ℕ
+  pub label : List ℕ
+  pub gap : List ℕ
+
+-- two words, one of each side
+pub record TwoWords : Type 0 where
+  pub left : List ℕ
+  pub right : List ℕ
+
+-- that of the right side, or of the left
+abbrev pub word_in : Bool → TwoWords → List ℕ
+word_in true words = words.right
+word_in false words = words.left

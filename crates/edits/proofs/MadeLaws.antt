@@ -2,56 +2,57 @@
 -- Assumes nothing.
 use mathlib.Core.Path.{◌≡◌, refl, sym, ap, ◌∙◌}
 use mathlib.Core.Bool.{Bool, true, false, cond}
+use mathlib.Core.Logic.{◌≢◌}
 use mathlib.Core.List.{List, [], ◌∷◌, ◌++◌, Memᴰ}
 use Prim.Native.Nat.{ℕ}
+use Rattle.std.specs.Prelude.{Result, Ok, Err}
 use native.Mathlib.Decide.{ℕ_discrete}
 use native.Mathlib.Omega.{arith}
 use borrow.Author.Tests.{eq-eqb}
 use lib.Dec.{ltb}
 use lib.ListN.{length, length-append}
 use Rattle.transducer.specs.Limits.{most_transitions}
-use Rattle.transducer.specs.Refusals.{many_transitions, no_such_transition, wrong_transition, first_of}
+use Rattle.transducer.specs.Refusals.{many_transitions, no_such_transition, wrong_transition, refusal_number, number_of, first_of}
 use Rattle.transducer.specs.Valid.{line_of, Shaped}
 use Rattle.transducer.specs.Accepted.{accepted_of}
 use Rattle.transducer.specs.Lines.{lines_of, transducer_of, without}
 use Rattle.transducer.specs.declared.Transition.{Transition}
 use Rattle.transducer.specs.declared.Transducer.{Transducer}
+use Rattle.transducer.specs.declared.refusals.Refusal.{Refusal}
+use Rattle.transducer.specs.declared.refusals.Refusal.TheVariants.{ManyTransitions, NoSuchTransition, WrongTransition}
 use Rattle.transducer.proofs.AcceptedLaws.{accepted_valid}
-use Rattle.edits.specs.Edits.{Edit, append, remove, Whole, line_refusal, edit_lines, edit_of, number_of, EditedBy}
-use Rattle.edits.specs.Parts.{handed_back_of}
+use Rattle.edits.specs.Edits.{Edit, append, remove, Whole, line_refusal, edit_lines, edit_of, edited_of, EditedBy}
 use Rattle.edits.specs.Rows.{Calls, no_call, call, after_edit, after_edits, refusals_of}
-use Rattle.edits.specs.declared.Outcome.{Outcome}
-use Rattle.edits.specs.declared.Outcome.TheVariants.{Done, ManyTransitions, NoSuchTransition, WrongTransition}
-use Rattle.edits.specs.declared.Edited.{Edited}
 use Rattle.edits.proofs.CallLaws.{line_there, edit_refused, edit_done}
 use Rattle.edits.proofs.RowLaws.{edit_shaped, one_accepted, in_a_row}
 
 -- ---- one call
 
--- an outcome with this number
+-- a refusal with this number
 record Named (number : ℕ) : Type 0 where
-  outcome : Outcome
-  named : number_of outcome ≡ number
+  refusal : Refusal
+  named : refusal_number refusal ≡ number
 
-line_named : (kept room : Bool) → Named (first_of (cond kept 0 wrong_transition ∷ cond room 0 many_transitions ∷ []))
+line_named : (kept room : Bool) → first_of (cond kept 0 wrong_transition ∷ cond room 0 many_transitions ∷ []) ≢ 0
+    → Named (first_of (cond kept 0 wrong_transition ∷ cond room 0 many_transitions ∷ []))
 unfolding first_of
-line_named false room = record { outcome = WrongTransition; named = refl }
-line_named true false = record { outcome = ManyTransitions; named = refl }
-line_named true true = record { outcome = Done; named = refl }
+line_named false room n = record { refusal = WrongTransition; named = refl }
+line_named true false n = record { refusal = ManyTransitions; named = refl }
+line_named true true n = absurd (n refl)
 
-number_named : (there : Bool) → Named (cond there 0 no_such_transition)
-number_named false = record { outcome = NoSuchTransition; named = refl }
-number_named true = record { outcome = Done; named = refl }
+number_named : (there : Bool) → cond there 0 no_such_transition ≢ 0 → Named (cond there 0 no_such_transition)
+number_named false n = record { refusal = NoSuchTransition; named = refl }
+number_named true n = absurd (n refl)
 
--- each refusal of an edit has one
-refusal_named : (n : ℕ) (lines : List Transition) (e : Edit) → Named (line_refusal n lines e)
+-- each refusal of an edit is one
+refusal_named : (n : ℕ) (lines : List Transition) (e : Edit) → line_refusal n lines e ≢ 0 → Named (line_refusal n lines e)
 unfolding line_refusal
-refusal_named n lines (append v) = line_named (line_of n v) (ltb (length lines) most_transitions)
-refusal_named n lines (remove l) = number_named (ltb l (length lines))
+refusal_named n lines (append v) some = line_named (line_of n v) (ltb (length lines) most_transitions) some
+refusal_named n lines (remove l) some = number_named (ltb l (length lines)) some
 
 -- what a call for e may answer
 pub record Answered (t : Transducer) (e : Edit) : Type 0 where
-  pub answer : Edited
+  pub answer : Result Transducer Refusal
   pub answers : EditedBy t e answer
 
 pub call_there : (t : Transducer) (e : Edit) → accepted_of t ≡ true → Shaped t → Whole e → Answered t e
@@ -63,13 +64,10 @@ call_there t e accepted shaped whole = go (ℕ_discrete refusal 0)
     go : Dec (refusal ≡ 0) → Answered t e
     go (yes z) =
         let lengths = edit_shaped t e (accepted_valid t accepted) shaped whole z in
-        record { answer = record { outcome = Done; table = edit_of t e }; answers = edit_done t e accepted (sym z) refl lengths }
+        record { answer = Ok (edit_of t e); answers = edit_done t e accepted (sym z) refl lengths }
     go (no n) =
-        let o = refusal_named t.states (lines_of t) e in
-        record {
-          answer = handed_back_of o.outcome t;
-          answers = edit_refused t e shaped accepted (λ z. n (sym o.named ∙ z)) o.named refl;
-        }
+        let o = refusal_named t.states (lines_of t) e n in
+        record { answer = Err o.refusal; answers = edit_refused t e shaped accepted (λ z. n (sym o.named ∙ z)) o.named }
 
 -- ---- any number of them
 
@@ -83,9 +81,9 @@ row_there t [] accepted shaped whole = record { numbers = []; last = t; calls = 
 row_there t (e ∷ edits) accepted shaped whole =
     let one = call_there t e accepted shaped (whole e (Memᴰ.head refl)) in
     let more =
-    row_there one.answer.table edits (one_accepted accepted one.answers) one.answers.shaped (λ e' m. whole e' (Memᴰ.tail m))
+    row_there (edited_of t one.answer) edits (one_accepted accepted one.answers) one.answers.shaped (λ e' m. whole e' (Memᴰ.tail m))
     in
-    record { numbers = number_of one.answer.outcome ∷ more.numbers; last = more.last; calls = call one.answers refl more.calls }
+    record { numbers = number_of one.answer ∷ more.numbers; last = more.last; calls = call one.answers refl more.calls }
 
 -- whatever the edits, refused ones included, there are calls for them, with the refusals and the lines that the edits of the lines have
 pub calls_there : (t : Transducer) (edits : List Edit) → accepted_of t ≡ true → Shaped t → ((e : Edit) → Memᴰ e edits → Whole e)

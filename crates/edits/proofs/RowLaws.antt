@@ -3,27 +3,28 @@ use mathlib.Core.Path.{◌≡◌, refl, sym, ap, ◌∙◌}
 use mathlib.Core.Bool.{Bool, true, false, cond}
 use mathlib.Core.List.{List, ◌∷◌}
 use Prim.Native.Nat.{ℕ, ◌<◌}
+use Rattle.std.specs.Prelude.{Result}
 use native.Mathlib.Decide.{ℕ_discrete}
 use native.Mathlib.Omega.{arith}
 use borrow.Author.Tests.{eq-eqb, ne_eqb, ltb-true}
 use lib.Dec.{eqb, ltb}
 use lib.ListN.{length}
 use Rattle.transducer.specs.Limits.{most_transitions}
-use Rattle.transducer.specs.Refusals.{invalid}
+use Rattle.transducer.specs.Refusals.{invalid, number_of}
 use Rattle.transducer.specs.Valid.{line_of, Valid, Shaped}
 use Rattle.transducer.specs.Accepted.{accepted_of}
 use Rattle.transducer.specs.Lines.{lines_of, transducer_of}
 use Rattle.transducer.specs.declared.StateSet.{StateSet}
 use Rattle.transducer.specs.declared.Transition.{Transition}
 use Rattle.transducer.specs.declared.Transducer.{Transducer}
+use Rattle.transducer.specs.declared.refusals.Refusal.{Refusal}
 use Rattle.transducer.proofs.Facts.{line_exactly}
 use Rattle.transducer.proofs.RefusalLaws.{this_one, no_fault, none_of}
 use Rattle.transducer.proofs.AcceptedLaws.{accepted_valid, made_again, made_valid_accepted}
 use Rattle.transducer.proofs.LineLaws.{lines_long, made_lines, appended_valid, appended_shaped}
 use Rattle.transducer.proofs.RemovalLaws.{removed_valid, removed_shaped}
-use Rattle.edits.specs.Edits.{Edit, append, remove, Whole, with_line_lem, with_number, line_refusal, edit_lines, refusal_of, edit_of, number_of, EditedBy}
+use Rattle.edits.specs.Edits.{Edit, append, remove, Whole, with_line_lem, with_number, line_refusal, edit_lines, refusal_of, edit_of, edited_of, EditedBy}
 use Rattle.edits.specs.Rows.{Calls, no_call, call, after_edit, after_edits, refusals_of, InARow}
-use Rattle.edits.specs.declared.Edited.{Edited}
 use Rattle.edits.proofs.CallLaws.{past_8, append_makes, remove_makes}
 
 -- ---- an edit that is not refused
@@ -65,13 +66,13 @@ edit_shaped t e h s (with_number l same) z =
 -- ---- one call
 
 -- of a transducer that is not accepted: 8, and the transducer handed back
-pub one_refused : {t : Transducer} {e : Edit} {r : Edited} → accepted_of t ≡ false → EditedBy t e r → (number_of r.outcome ≡ invalid) × (r.table ≡ t)
+pub one_refused : {t : Transducer} {e : Edit} {r : Result Transducer Refusal} → accepted_of t ≡ false → EditedBy t e r → (number_of r ≡ invalid) × (edited_of t r ≡ t)
 unfolding refusal_of
 one_refused {t} {e} a h =
     let number : invalid ≡ refusal_of t e = this_one _ (rw a refl) (λ z. omega arith) in
     (h.number ∙ sym number, h.table ∙ rw (ne_eqb (refusal_of t e) 0 (λ z. omega (arith, number))) refl)
 
-module _ {t : Transducer} {e : Edit} {r : Edited} (accepted : accepted_of t ≡ true) (h : EditedBy t e r) where
+module _ {t : Transducer} {e : Edit} {r : Result Transducer Refusal} (accepted : accepted_of t ≡ true) (h : EditedBy t e r) where
   abbrev refusal : ℕ
   refusal = line_refusal t.states (lines_of t) e
 
@@ -79,14 +80,14 @@ module _ {t : Transducer} {e : Edit} {r : Edited} (accepted : accepted_of t ≡ 
   same_refusal : refusal_of t e ≡ refusal
   same_refusal = sym (past_8 t e accepted refl)
 
-  pub one_number : number_of r.outcome ≡ refusal
+  pub one_number : number_of r ≡ refusal
   one_number = h.number ∙ same_refusal
 
-  pub one_handed : r.table ≡ cond (eqb refusal 0) (edit_of t e) t
+  pub one_handed : edited_of t r ≡ cond (eqb refusal 0) (edit_of t e) t
   one_handed = h.table ∙ ap (λ n. cond (eqb n 0) (edit_of t e) t) same_refusal
 
   -- and hands over what that makes
-  one_table : Shaped t → r.table ≡ transducer_of t.states t.starts t.finals (after_edit t.states (lines_of t) e)
+  one_table : Shaped t → edited_of t r ≡ transducer_of t.states t.starts t.finals (after_edit t.states (lines_of t) e)
   unfolding edit_of after_edit
   one_table shaped = one_handed ∙ go (eqb refusal 0)
     where
@@ -95,7 +96,7 @@ module _ {t : Transducer} {e : Edit} {r : Edited} (accepted : accepted_of t ≡ 
       go true = refl
       go false = sym (made_again t accepted shaped)
 
-  pub one_accepted : accepted_of r.table ≡ true
+  pub one_accepted : accepted_of (edited_of t r) ≡ true
   one_accepted = rw one_handed (go (ℕ_discrete refusal 0))
     where
       go : Dec (refusal ≡ 0) → accepted_of (cond (eqb refusal 0) (edit_of t e) t) ≡ true

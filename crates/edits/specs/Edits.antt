@@ -1,15 +1,13 @@
 -- An edit by one line (document 02, job 6): what it makes of a list of lines, and what the two calls answer.
-use Rattle.std.specs.Prelude.{◌≡◌, cond, List, [], ◌∷◌, ◌++◌, ℕ, eqb, ltb, length}
+use Rattle.std.specs.Prelude.{◌≡◌, cond, Result, Ok, Err, List, [], ◌∷◌, ◌++◌, ℕ, eqb, ltb, length}
 use Rattle.transducer.specs.Limits.{most_transitions, most_outputs}
-use Rattle.transducer.specs.Refusals.{invalid, many_transitions, no_such_transition, wrong_transition, first_of}
+use Rattle.transducer.specs.Refusals.{invalid, many_transitions, no_such_transition, wrong_transition, number_of, first_of}
 use Rattle.transducer.specs.Valid.{line_of, Shaped}
 use Rattle.transducer.specs.Accepted.{accepted_of}
 use Rattle.transducer.specs.Lines.{lines_of, transducer_of, without}
 use Rattle.transducer.specs.declared.Transition.{Transition}
 use Rattle.transducer.specs.declared.Transducer.{Transducer}
-use Rattle.edits.specs.declared.Outcome.{Outcome}
-use Rattle.edits.specs.declared.Outcome.TheVariants.{Done, Invalid, ManyTransitions, NoSuchTransition, WrongTransition}
-use Rattle.edits.specs.declared.Edited.{Edited}
+use Rattle.transducer.specs.declared.refusals.Refusal.{Refusal}
 
 -- "a line appended as the last, and a line removed by its number, those after it moving down one"
 pub data Edit : Type 0 where
@@ -44,17 +42,14 @@ refusal_of t e = first_of (cond (accepted_of t) 0 invalid ∷ line_refusal t.sta
 unfoldable pub edit_of : Transducer → Edit → Transducer
 edit_of t e = transducer_of t.states t.starts t.finals (edit_lines (lines_of t) e)
 
--- document 02's number of an outcome, 0 where there is no refusal
-abbrev pub number_of : Outcome → ℕ
-number_of Done = 0
-number_of Invalid = invalid
-number_of ManyTransitions = many_transitions
-number_of NoSuchTransition = no_such_transition
-number_of WrongTransition = wrong_transition
+-- what a call that is given t hands over: the edited transducer, or with a refusal the one that it was given
+abbrev pub edited_of : Transducer → Result Transducer Refusal → Transducer
+edited_of t (Ok edited) = edited
+edited_of t (Err refusal) = t
 
 -- what the call for an edit answers: its refusal; and the edited transducer, or with a refusal the one that it was given. The arrays of either have their
 -- lengths
-pub record EditedBy (t : Transducer) (e : Edit) (r : Edited) : Type 0 where
-  pub number : number_of r.outcome ≡ refusal_of t e
-  pub table : r.table ≡ cond (eqb (refusal_of t e) 0) (edit_of t e) t
-  pub shaped : Shaped r.table
+pub record EditedBy (t : Transducer) (e : Edit) (r : Result Transducer Refusal) : Type 0 where
+  pub number : number_of r ≡ refusal_of t e
+  pub table : edited_of t r ≡ cond (eqb (refusal_of t e) 0) (edit_of t e) t
+  pub shaped : Shaped (edited_of t r)

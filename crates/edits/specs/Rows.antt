@@ -1,21 +1,22 @@
 -- Calls in a row (document 02, job 6): "Over every list of these two calls .., refused ones included, the table is the one that the same list of edits makes
 -- of the .. lines." The lists have any length. `in_a_row` of proofs/RowLaws.antt proves it of every transducer that is accepted.
-use Rattle.std.specs.Prelude.{◌≡◌, true, cond, List, [], ◌∷◌, ℕ, eqb}
+use Rattle.std.specs.Prelude.{◌≡◌, true, cond, Result, List, [], ◌∷◌, ℕ, eqb}
+use Rattle.transducer.specs.Refusals.{number_of}
 use Rattle.transducer.specs.Valid.{Shaped}
 use Rattle.transducer.specs.Accepted.{accepted_of}
 use Rattle.transducer.specs.Lines.{lines_of, transducer_of}
 use Rattle.transducer.specs.declared.Transition.{Transition}
 use Rattle.transducer.specs.declared.Transducer.{Transducer}
-use Rattle.edits.specs.Edits.{Edit, line_refusal, edit_lines, number_of, EditedBy}
-use Rattle.edits.specs.declared.Edited.{Edited}
+use Rattle.transducer.specs.declared.refusals.Refusal.{Refusal}
+use Rattle.edits.specs.Edits.{Edit, line_refusal, edit_lines, edited_of, EditedBy}
 
 -- ---- the calls
 
 -- from t the calls for these edits, each given the transducer that the one before handed over, answer with these numbers, and the last hands over t'
 pub data Calls : Transducer → List Edit → List ℕ → Transducer → Type 0 where
   no_call : {t t' : Transducer} → t ≡ t' → Calls t [] [] t'
-  call : {t t' : Transducer} {e : Edit} {edits : List Edit} {number : ℕ} {numbers : List ℕ} {r : Edited} → EditedBy t e r → number ≡ number_of r.outcome
-      → Calls r.table edits numbers t' → Calls t (e ∷ edits) (number ∷ numbers) t'
+  call : {t t' : Transducer} {e : Edit} {edits : List Edit} {number : ℕ} {numbers : List ℕ} {r : Result Transducer Refusal} → EditedBy t e r → number ≡ number_of r
+      → Calls (edited_of t r) edits numbers t' → Calls t (e ∷ edits) (number ∷ numbers) t'
 
 -- ---- the same edits of a list of lines, among n states
 

@@ -25,16 +25,17 @@ use Rattle.translator.proofs.TranslationLaws.{gives_the_output}
 use Rattle.witness.specs.Showing.{Buffers, Showing}
 use Rattle.witness.specs.declared.Counts.{Counts}
 use Rattle.witness.proofs.ShowingLaws.{shown_witness}
+use Rattle.std.specs.Prelude.{Result}
+use Rattle.transducer.specs.declared.refusals.Refusal.{Refusal}
+use Rattle.tablereader.specs.Outcome.{number_of}
 use Rattle.functionality.specs.Decided.{refusal_of, verdict_of, UsefulCount, Decided}
 use Rattle.functionality.specs.declared.Verdict.{Verdict}
 use Rattle.functionality.proofs.DecidedLaws.{useful_count_unique, alike_useful_count}
 use Rattle.functionality.proofs.VerdictLaws.{refusal_none}
-use Rattle.engine.specs.Engine.{judgement_of, VerdictOn, file_translation_of, AnswerBy}
+use Rattle.engine.specs.Engine.{Judgement, FileTranslation, on_file, split_of, useful_of, counts_of, length_of, VerdictOn, AnswerBy}
 use Rattle.engine.specs.Demand3.{Served, file, value, table_in_of, Admitted, VerdictFor, AnswerFor, JudgedInFull, TranslatedInFull}
 use Rattle.engine.specs.Demand3.{TwoReadings, Exact, TheOutput, SameAnswer, Demand3}
-use Rattle.engine.specs.declared.Judgement.{Judgement}
-use Rattle.engine.specs.declared.FileTranslation.{FileTranslation}
-use Rattle.engine.proofs.EngineLaws.{single_verdict}
+use Rattle.engine.proofs.EngineLaws.{number_on, split_on, useful_on, counts_on, length_on, single_verdict}
 use Rattle.engine.proofs.InputCodes.{reads_in_range}
 
 -- ---- two readings
@@ -65,28 +66,28 @@ false_together true true f g = refl
 
 -- ---- a verdict that is no refusal
 
-module _ {t : Transducer} {b b' : Buffers} {v : Verdict} (d : Decided t b b' v) (none : refusal_of t b ≡ 0) where
+module _ {t : Transducer} {b b' : Buffers} {v : Result Verdict Refusal} (d : Decided t b b' v) (none : refusal_of t b ≡ 0) where
   -- it is single exactly where the transducer is functional
-  single_functional : ((judgement_of v).split ≡ false) ↔ Functional t
+  single_functional : (split_of (on_file v) ≡ false) ↔ Functional t
   single_functional = (
     λ e. (d.single none).0 (single_verdict v e),
-    λ f. ne_eqb (verdict_of v.outcome) 1 (λ e. let z = (d.single none).1 f in omega arith),
+    λ f. split_on v ∙ ne_eqb (verdict_of v) 1 (λ e. let z = (d.single none).1 f in omega arith),
   )
 
   -- it shows two readings where it is split
-  split_shows : (judgement_of v).split ≡ true → Showing t (2 * v.useful - 1) b b' v.counts
-  split_shows e = d.shows (eqb-true _ _ e)
+  split_shows : split_of (on_file v) ≡ true → Showing t (2 * useful_of (on_file v) - 1) b b' (counts_of (on_file v))
+  split_shows e = rw (useful_on v, counts_on v) (d.shows (eqb-true _ _ (sym (split_on v) ∙ e)))
 
   -- it is exact
-  exact : Exact t (judgement_of v)
-  exact = record { number = d.number ∙ none; split = split; single = false_exactly split }
+  exact : Exact t (on_file v)
+  exact = record { number = number_on v ∙ d.number ∙ none; split = split; single = false_exactly split }
     where
-      one : TwoReadings t → (b : Bool) → (judgement_of v).split ≡ b → (judgement_of v).split ≡ true
+      one : TwoReadings t → (b : Bool) → split_of (on_file v) ≡ b → split_of (on_file v) ≡ true
       one w true e = e
       one w false e = absurd (functional_one (single_functional.0 e) w)
 
-      split : ((judgement_of v).split ≡ true) ↔ TwoReadings t
-      split = (λ e. shown_two (split_shows e), λ w. one w (judgement_of v).split refl)
+      split : (split_of (on_file v) ≡ true) ↔ TwoReadings t
+      split = (λ e. shown_two (split_shows e), λ w. one w (split_of (on_file v)) refl)
 
 -- ---- what is served and not refused
 
@@ -114,13 +115,13 @@ module _ {s : Served} {b b' : Buffers} {r : Judgement} (ok : Admitted s) (h : Ju
   served_exact : Exact (table_in_of s) r
   served_exact = rw judged.answer (exact judged.decided none_refused)
 
-  served_useful : UsefulCount (table_in_of s) r.useful
-  served_useful = rw judged.answer (judged.decided.useful none_refused)
+  served_useful : UsefulCount (table_in_of s) (useful_of r)
+  served_useful = rw (judged.answer, useful_on judged.verdict) (judged.decided.useful none_refused)
 
-  served_shows : r.split ≡ true → Showing (table_in_of s) (2 * r.useful - 1) b b' r.counts
+  served_shows : split_of r ≡ true → Showing (table_in_of s) (2 * useful_of r - 1) b b' (counts_of r)
   served_shows = rw judged.answer (split_shows judged.decided none_refused)
 
-  served_functional : (r.split ≡ false) ↔ Functional (table_in_of s)
+  served_functional : (split_of r ≡ false) ↔ Functional (table_in_of s)
   served_functional = rw judged.answer (single_functional judged.decided none_refused)
 
 -- on a functional transducer the answer is the output that all accepting paths write
@@ -138,7 +139,7 @@ served_output {s} {input} {π = π} ok functional h short a e =
     record {
       output = output_of (table_in_of s) a;
       all_write = λ ρ c k. (functional_paths (table_in_of s)).0 functional ρ π c a (k ∙ sym e);
-      answer = answered.answer ∙ ap file_translation_of given.0;
+      answer = answered.answer ∙ ap on_file given.0;
       written = given.1;
     }
 
@@ -156,12 +157,12 @@ served_same {s} {s'} {out₀ = out₀} {out} {out₀'} {out'} {q} {q'} ok ok' al
     let same =
     translation.alike_translates alike (admitted s ok) (admitted s' ok') a.translated a'.translated functional h.room h'.room
     in
-    let answer : q ≡ q' = a.answer ∙ ap file_translation_of same.answer ∙ sym a'.answer in
-    let size : q.length ≡ length same.bytes = ap (λ p. p.length) a.answer ∙ same.size in
+    let answer : q ≡ q' = a.answer ∙ ap on_file same.answer ∙ sym a'.answer in
+    let size : length_of q ≡ length same.bytes = ap length_of a.answer ∙ length_on a.translation ∙ same.size in
     record {
-      number = ap (λ p. p.number) answer;
-      size = ap (λ p. p.length) answer;
-      codes = beginning same.bytes out₀ size same.one ∙ sym (beginning same.bytes out₀' (sym (ap (λ p. p.length) answer) ∙ size) same.other);
+      number = ap number_of answer;
+      size = ap length_of answer;
+      codes = beginning same.bytes out₀ size same.one ∙ sym (beginning same.bytes out₀' (sym (ap length_of answer) ∙ size) same.other);
     }
 
 -- ---- the theorem

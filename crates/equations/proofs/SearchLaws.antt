@@ -7,6 +7,7 @@ use mathlib.Core.Logic.{◌≢◌}
 use Prim.Native.Nat.{ℕ, ◌*◌, ◌-◌, ◌<◌}
 use native.Mathlib.Omega.{arith}
 use lib.ListN.{length, get_or}
+use Rattle.std.specs.Prelude.{Option, Some, None}
 use Rattle.transducer.specs.StateSet.{In}
 use Rattle.transducer.specs.Transition.{bytes_of}
 use Rattle.transducer.specs.Valid.{Valid}
@@ -20,12 +21,14 @@ use Rattle.product.proofs.Promises.{steps_promised}
 use Rattle.pairs.specs.Ways.{Useful}
 use Rattle.pairs.specs.declared.UsefulPairs.{UsefulPairs}
 use Rattle.witness.proofs.Fronts.{same_bytes}
-use Rattle.outputs.specs.Outputs.{Outputs, OutputsOf}
+use Rattle.outputs.specs.Outputs.{Entries, OutputsOf}
 use Rattle.delays.specs.WaysOut.{level, Lists, word_out, Placed, Order, Gaps, Grounds}
 use Rattle.delays.specs.Needs.{StepHolds}
 use Rattle.delays.proofs.WayOutLaws.{placed_more, grounds, gap_there}
-use Rattle.equations.specs.Tests.{Standing, Listed, WayPasses, Differing, Tested}
-use Rattle.equations.specs.Loops.{Measured, Places, PairPasses, Broken, AllTried}
+use Rattle.equations.specs.Tests.{Standing, Listed, WayPasses, DiffersAt, Tested}
+use Rattle.equations.specs.Loops.{TestLists, Measured, Places, PairPasses, BrokenAt, AllTried}
+use Rattle.equations.specs.declared.At.{At}
+use Rattle.equations.specs.declared.At.TheVariants.{Start, Step as AtStep}
 use Rattle.equations.specs.declared.Failure.{Failure}
 use Rattle.equations.proofs.Equations as equations
 use Rattle.equations.proofs.OutWords.{word_is, needs_out, equation_exactly}
@@ -51,6 +54,11 @@ label_of_lem valid p q p' q' (right m) move =
     let h = steps_promised.edge_number valid move.1 in
     record { label = label_of no_transition m; low = omega arith; is = steps_promised.right_label m h }
 
+-- the tests of a transducer, by its lists
+abbrev pub tests_of : Transducer → (m written out out_step gap : List ℕ) → TestLists
+tests_of t m written out out_step gap =
+    record { starts = t.starts; machine = m; ways = record { written = written; link = out; label = out_step; gap = gap } }
+
 -- what the tests are of: the lists are those of the transducer, and the pairs that count are the useful ones
 pub record Meant (t : Transducer) (m written out out_step gap : List ℕ) : Type 0 where
   pub image : ImageOf t false m
@@ -63,17 +71,17 @@ module _ {t : Transducer} {r : UsefulPairs} {out out_step : List ℕ} (ready : S
   abbrev valid : Valid t
   valid = is-valid ready
 
-  pub lists_of : {written : List ℕ} → Outputs written → Lists written out out_step
+  pub lists_of : {written : List ℕ} → Entries written → Lists written out out_step
   lists_of o = record { outputs = o; links = links_out ready }
 
   -- ---- where all pass
 
   module _ {m written gap : List ℕ} (s : Meant t m written out out_step gap)
-      (pass : (i : ℕ) → get_or gap i 0 ≢ 0 → PairPasses t.starts m written out out_step gap i) where
+      (pass : (i : ℕ) → get_or gap i 0 ≢ 0 → PairPasses (tests_of t m written out out_step gap) i) where
     useful_at_lem : (p q : ℕ) → UsefulPair t p q → Useful t (pair_of p q)
     useful_at_lem = numbered_useful ready.valid ready.ways
 
-    at_pair : (p q : ℕ) → UsefulPair t p q → PairPasses t.starts m written out out_step gap (pair_of p q)
+    at_pair : (p q : ℕ) → UsefulPair t p q → PairPasses (tests_of t m written out out_step gap) (pair_of p q)
     at_pair p q h = pass (pair_of p q) (s.known (pair_of p q) (useful_at_lem p q h))
 
     abbrev way : (p q : ℕ) → UsefulPair t p q → Leaves t (out_walk ready.valid ready.ways p q) p q
@@ -125,24 +133,19 @@ module _ {t : Transducer} {r : UsefulPairs} {out out_step : List ℕ} (ready : S
         ((equation_exactly s.outputs (links_out ready) label (steps_promised.label_low valid i label j move) (led_out ready h) (led_out ready h')
         round.leaves step.leaves).1 (equations.holds t u round.leaves (step_of label) step.leaves round.same step.same))
 
-    pub differing : (f : Failure) → Broken t.starts m written out out_step gap f.from f.label f.to → Differing t out out_step f
-    differing f b =
-        let u = s.useful f.from b.inside b.marked in
-        record {
-          useful = u;
-          start = λ e. let z = b.start e in (z.0, uneven_differs f.from u z.1);
-          step = λ n.
-              let z = b.step n in
-              let move = steps_promised.steps_move s.image z.step z.target in
-              let j-low : f.to < most_pairs = rw z.target at (steps_promised.target_low s.image.machine s.image.machine b.inside z.step) in
-              let u' = s.useful f.to j-low z.marked in
-              (u', move, equation_differs f.from f.label f.to u u' move z.fails);
-        }
+    differs : (i : ℕ) → i < most_pairs → Useful t i → (a : At) → BrokenAt (tests_of t m written out out_step gap) i a → DiffersAt t out out_step i a
+    differs i low u Start z = (z.0, uneven_differs i u z.1)
+    differs i low u (AtStep e) z =
+        let move = steps_promised.steps_move s.image z.step z.target in
+        let to_low : e.to < most_pairs = rw z.target at (steps_promised.target_low s.image.machine s.image.machine low z.step) in
+        let u' = s.useful e.to to_low z.marked in
+        (u', move, equation_differs i e.label e.to u u' move z.fails)
 
     -- ---- the answer of all tests
 
-    pub tested : {f : Failure} → AllTried t.starts m written out out_step gap f → Tested t out out_step f
-    tested {f} a = record { passed = λ e. all_pass s (a.passed e); failing = λ n. differing f (a.failing n) }
+    pub tested : (r : Option Failure) → AllTried (tests_of t m written out out_step gap) r → Tested t out out_step r
+    tested None a = all_pass s a
+    tested (Some f) a = let u = s.useful f.from a.inside a.marked in record { useful = u; differs = differs f.from a.inside u f.at a.broken }
 
 -- ---- what the tests are told, in the lists that they use
 
@@ -161,7 +164,7 @@ module _ {t : Transducer} {u : ℕ} {out out_step order : List ℕ} (listed : Li
   module _ {m written gap : List ℕ} (image : ImageOf t false m) (o : OutputsOf t written) (long : length gap ≡ most_pairs)
       (g : Gaps written out out_step order u gap) where
     lists_led : Lists written out out_step
-    lists_led = lists_of listed.standing o.outputs
+    lists_led = lists_of listed.standing o.entries
 
     -- the pairs with a place are the useful ones, and those that count
     pub meant : Meant t m written out out_step gap
@@ -174,7 +177,7 @@ module _ {t : Transducer} {u : ℕ} {out out_step order : List ℕ} (listed : Li
           known = λ v h. let p = listed.discovered.place v h in gap_there lists_led order_led g (record { place = p.0; low = p.1; is = p.2 });
         }
 
-    pub measured : Measured m written out out_step gap
+    pub measured : Measured (tests_of t m written out out_step gap)
     measured =
         record {
           machine = image.machine;

@@ -20,7 +20,7 @@ use Rattle.pairs.specs.declared.UsefulPairs.{UsefulPairs}
 use Rattle.witness.specs.Walk.{walk_of, Whole, Same}
 use Rattle.witness.specs.Sides.{Candidate}
 use Rattle.delays.specs.WaysOut.{Links, Led}
-use Rattle.equations.specs.Links.{part, StandsAt, WaysOf, round_of, through_of}
+use Rattle.equations.specs.Links.{part, StandsAt, round_of, through_of}
 use Rattle.equations.specs.Tests.{Standing, WayPasses, Fails}
 use Rattle.equations.specs.declared.way.Place.{Place}
 use Rattle.equations.proofs.WalkWords.{whole, same_parts}
@@ -78,16 +78,12 @@ module _ {t : Transducer} {r : UsefulPairs} {out out_step : List ℕ} (standing 
       (omega (arith, standing.ways.way_out.short v u)) d
 
   module _ {into into_step : List ℕ} (way_in : WayIn t r.count into into_step) where
-    -- a pair with a way in, and a pair with a way out
-    pub ways_of : length into ≡ most_pairs → length into_step ≡ most_pairs → {i j : ℕ} → Useful t i → Useful t j
-        → WaysOf into into_step out out_step i j
-    ways_of long long' u u' =
-        record {
-          into_links = links_of way_in long long' (λ j k v. steps_promised.label_low valid j k v);
-          out_links = links_out;
-          enters = led_by way_in u;
-          leaves = led_out u';
-        }
+    -- the links of the ways in, and a pair with a way in
+    pub links_in : length into ≡ most_pairs → length into_step ≡ most_pairs → Links into into_step
+    links_in long long' = links_of way_in long long' (λ j k v. steps_promised.label_low valid j k v)
+
+    pub led_in : {i : ℕ} → Useful t i → Led into into_step i
+    led_in = led_by way_in
 
     -- the way into i and out of it
     module _ (i : ℕ) {steps : List ℕ} {p : Place} (u : Useful t i) (s : StandsAt steps p (round_of into into_step out out_step i)) where

@@ -10,66 +10,49 @@ use Rattle.buffers.specs.Put.{put}
 use Rattle.buffers.proofs.PutLaws.{put_none, put_one, put_behind, put_before}
 use Rattle.worklist.specs.Links.{way_from}
 use Rattle.worklist.proofs.Chains.{chain_none}
-use Rattle.delays.specs.WaysOut.{Links, Led}
-use Rattle.delays.proofs.WayOutLaws.{Onward, onward_to}
+use Rattle.delays.specs.WaysOut.{Led}
+use Rattle.delays.proofs.WayOutLaws.{Onward}
 use Rattle.equations.specs.Links.{most_steps, middle, EnteredBy, LeftBy}
 
 module _ (link label : List ℕ) where
   -- at the pair `node` on the way from v
-  pub record Walking (v node next : ℕ) : Type 0 where
-    pub links : Links link label
+  pub record Walking (v node : ℕ) : Type 0 where
     pub few : length (way_from link label v) ≤ middle
     pub fewer : length (way_from link label node) ≤ length (way_from link label v)
     pub led : Led link label node
-    pub is : next ≡ get_or link node 0
 
-  walking_none : {v : ℕ} → Links link label → Led link label v → Walking v v (get_or link v 0)
-  walking_none k l = record { links = k; few = omega (arith, l.short); fewer = omega arith; led = l; is = refl }
+  module _ {v node : ℕ} (w : Walking v node) where
+    walking_more : {next : ℕ} → Onward link label [] node next → Walking v next
+    walking_more o = record { few = w.few; fewer = omega (arith, w.fewer, o.fewer); led = o.led_next }
 
-  module _ {v node next : ℕ} (w : Walking v node next) where
-    -- where the link is not 0, it leads to the next pair
-    pub ahead : (next ≡ 0 → ⊥) → Onward link label [] node (next - 1)
-    ahead h = onward_to w.links [] w.led w.is (omega arith)
-
-    walking_more : (next ≡ 0 → ⊥) → Walking v (next - 1) (get_or link (next - 1) 0)
-    walking_more h =
-        let o = ahead h in
-        record { links = w.links; few = w.few; fewer = omega (arith, w.fewer, o.fewer); led = o.led_next; is = refl }
-
-    -- where it is 0, nothing is left
-    walking_done : next ≡ 0 → way_from link label node ≡ []
-    walking_done h = chain_none w.led.chain (sym w.is ∙ h)
+    -- where no link leads on, nothing is left
+    walking_done : get_or link node 0 ≡ 0 → way_from link label node ≡ []
+    walking_done h = chain_none w.led.chain h
 
   -- the way in: the labels before the place `at` are still to be written
-  pub record Entering (v : ℕ) (steps₀ steps : List ℕ) (at node next : ℕ) : Type 0 where
-    pub walking : Walking v node next
+  pub record Entering (v : ℕ) (steps₀ steps : List ℕ) (at node : ℕ) : Type 0 where
+    pub walking : Walking v node
     pub place : at + length (way_from link label v) ≡ middle + length (way_from link label node)
     pub long : length steps ≡ length steps₀
     pub rest : put steps (at - length (way_from link label node)) (reverse (way_from link label node))
         ≡ put steps₀ (at - length (way_from link label node)) (reverse (way_from link label v))
 
-  pub entering_none : (v : ℕ) (steps : List ℕ) → Links link label → Led link label v → Entering v steps steps middle v (get_or link v 0)
-  entering_none v steps k l = record { walking = walking_none k l; place = refl; long = refl; rest = refl }
-
-  module _ {v : ℕ} {steps₀ steps : List ℕ} {at node next : ℕ} (e : Entering v steps₀ steps at node next) where
+  module _ {v : ℕ} {steps₀ steps : List ℕ} {at node : ℕ} (e : Entering v steps₀ steps at node) where
     -- there is room for what is left
-    pub entering_room : (next ≡ 0 → ⊥) → (0 < at) × (at ≤ middle)
-    entering_room h =
-        let o = ahead e.walking h in
-        (omega (arith, o.fewer, e.place, e.walking.few), omega (arith, e.place, e.walking.fewer))
+    pub entering_room : {next : ℕ} → Onward link label [] node next → (0 < at) × (at ≤ middle)
+    entering_room o = (omega (arith, o.fewer, e.place, e.walking.few), omega (arith, e.place, e.walking.fewer))
 
     -- a turn: the label of the last step that is left
-    pub entering_more : length steps₀ ≡ most_steps → (next ≡ 0 → ⊥)
-        → Entering v steps₀ (set steps (at - 1) (get_or label node 0)) (at - 1) (next - 1) (get_or link (next - 1) 0)
-    entering_more long h =
-        let o = ahead e.walking h in
-        let r = entering_room h in
+    pub entering_more : {next : ℕ} → length steps₀ ≡ most_steps → Onward link label [] node next
+        → Entering v steps₀ (set steps (at - 1) (get_or label node 0)) (at - 1) next
+    entering_more {next} long o =
+        let r = entering_room o in
         let b = get_or label node 0 in
-        let back = way_from link label (next - 1) in
+        let back = way_from link label next in
         let from = at - length (way_from link label node) in
         let same : at - 1 - length back ≡ from = omega (arith, o.fewer, e.place, e.walking.few) in
         record {
-          walking = walking_more e.walking h;
+          walking = walking_more e.walking o;
           place = omega (arith, o.fewer, e.place, r);
           long = length-set steps (at - 1) b ∙ e.long;
           rest =
@@ -81,37 +64,32 @@ module _ (link label : List ℕ) where
         }
 
     -- the end: all of it is written
-    pub entering_done : next ≡ 0 → EnteredBy link label v steps₀ steps at
+    pub entering_done : get_or link node 0 ≡ 0 → EnteredBy link label v steps₀ steps at
     entering_done h =
         let none = walking_done e.walking h in
         record { place = omega (arith, e.place, ap length none); left = sym (put_none steps at) ∙ (rw (none, sub-zero) at e.rest) }
 
   -- the way out: the labels from the place `at` on are still to be written
-  pub record Leaving (v : ℕ) (steps₀ : List ℕ) (start : ℕ) (steps : List ℕ) (at node next : ℕ) : Type 0 where
-    pub walking : Walking v node next
+  pub record Leaving (v : ℕ) (steps₀ : List ℕ) (start : ℕ) (steps : List ℕ) (at node : ℕ) : Type 0 where
+    pub walking : Walking v node
     pub place : at + length (way_from link label node) ≡ start + length (way_from link label v)
     pub long : length steps ≡ length steps₀
     pub rest : put steps at (way_from link label node) ≡ put steps₀ start (way_from link label v)
 
-  pub leaving_none : (v : ℕ) (steps : List ℕ) (start : ℕ) → Links link label → Led link label v
-      → Leaving v steps start steps start v (get_or link v 0)
-  leaving_none v steps start k l = record { walking = walking_none k l; place = refl; long = refl; rest = refl }
-
-  module _ {v : ℕ} {steps₀ steps : List ℕ} {start at node next : ℕ} (e : Leaving v steps₀ start steps at node next) where
+  module _ {v : ℕ} {steps₀ steps : List ℕ} {start at node : ℕ} (e : Leaving v steps₀ start steps at node) where
     -- there is room for what is left
-    pub leaving_room : start ≤ middle + 1 → (next ≡ 0 → ⊥) → at < most_steps
-    leaving_room low h = let o = ahead e.walking h in omega (arith, o.fewer, e.place, e.walking.few)
+    pub leaving_room : {next : ℕ} → start ≤ middle + 1 → Onward link label [] node next → at < most_steps
+    leaving_room low o = omega (arith, o.fewer, e.place, e.walking.few)
 
     -- a turn: the label of the first step that is left
-    pub leaving_more : start ≤ middle + 1 → length steps₀ ≡ most_steps → (next ≡ 0 → ⊥)
-        → Leaving v steps₀ start (set steps at (get_or label node 0)) (at + 1) (next - 1) (get_or link (next - 1) 0)
-    leaving_more low long h =
-        let o = ahead e.walking h in
-        let r = leaving_room low h in
+    pub leaving_more : {next : ℕ} → start ≤ middle + 1 → length steps₀ ≡ most_steps → Onward link label [] node next
+        → Leaving v steps₀ start (set steps at (get_or label node 0)) (at + 1) next
+    leaving_more {next} low long o =
+        let r = leaving_room low o in
         let b = get_or label node 0 in
-        let back = way_from link label (next - 1) in
+        let back = way_from link label next in
         record {
-          walking = walking_more e.walking h;
+          walking = walking_more e.walking o;
           place = omega (arith, o.fewer, e.place);
           long = length-set steps at b ∙ e.long;
           rest =
@@ -122,7 +100,7 @@ module _ (link label : List ℕ) where
         }
 
     -- the end: all of it is written
-    pub leaving_done : next ≡ 0 → LeftBy link label v steps₀ steps start at
+    pub leaving_done : get_or link node 0 ≡ 0 → LeftBy link label v steps₀ steps start at
     leaving_done h =
         let none = walking_done e.walking h in
         record { place = omega (arith, e.place, ap length none); left = sym (put_none steps at) ∙ (rw none at e.rest) }

@@ -1,20 +1,22 @@
 -- What the loops of the tests carry, in the lists of numbers that they run on: which pairs count, and which of the tests have passed.
-use Rattle.std.specs.Prelude.{◌≡◌, Bool, true, false, List, ◌≢◌, ℕ, ◌+◌, ◌-◌, ◌≤◌, ◌<◌, length, take, drop, get_or}
+use Rattle.std.specs.Prelude.{◌≡◌, Bool, true, false, List, ◌≢◌, ℕ, ◌-◌, ◌≤◌, ◌<◌, length, get_or, Option, MatchOption, IfSome}
 use Rattle.transducer.specs.declared.StateSet.{StateSet}
 use Rattle.product.specs.Numbers.{most_pairs, no_step_of, Label, PairIn}
 use Rattle.product.specs.Machine.{Machine}
 use Rattle.product.specs.Steps.{Steps, target_of}
-use Rattle.delays.specs.WaysOut.{level, Placed, Grounds}
-use Rattle.delays.specs.Needs.{most_word, lack_of, needs_of, WayHeld, StepHolds, Fronts}
-use Rattle.equations.specs.Tests.{fine, uneven}
+use Rattle.delays.specs.WaysOut.{level, Placed, Grounds, WayLists, TwoWords}
+use Rattle.delays.specs.Needs.{needs_of, WayHeld, StepHolds}
+use Rattle.delays.specs.declared.equation.StepTo.{StepTo}
+use Rattle.equations.specs.declared.At.{At}
+use Rattle.equations.specs.declared.At.TheVariants.{Start, Step}
 use Rattle.equations.specs.declared.Failure.{Failure}
-use Rattle.equations.specs.declared.steps.OnWay.{OnWay}
+use Rattle.equations.specs.declared.testing.OnWay.{OnWay}
 
--- the machine, and the gaps of the pairs that count, 0 for the others; a pair that counts has a way out by pairs that count
-pub record Measured (m written out out_step gap : List ℕ) : Type 0 where
-  pub machine : Machine m
-  pub grounds : Grounds written out out_step gap
-  pub onward : (v : ℕ) → get_or gap v 0 ≢ 0 → get_or out v 0 ≢ 0 → get_or gap (get_or out v 0 - 1) 0 ≢ 0
+-- what the tests are of: the start states, the machine, and the ways out of the pairs that count
+pub record TestLists : Type 0 where
+  pub starts : StateSet
+  pub machine : List ℕ
+  pub ways : WayLists
 
 -- the first n places of the order have the pairs that count
 pub record Places (order : List ℕ) (n : ℕ) (gap : List ℕ) : Type 0 where
@@ -24,13 +26,6 @@ pub record Places (order : List ℕ) (n : ℕ) (gap : List ℕ) : Type 0 where
   pub counts : (h : ℕ) → h < n → get_or gap (get_or order h 0) 0 ≢ 0
   pub all : (v : ℕ) → get_or gap v 0 ≢ 0 → Placed order n v
 
--- the four lists for words have their lengths
-pub record Buffers (left right x y : List ℕ) : Type 0 where
-  pub long_left : length left ≡ most_word
-  pub long_right : length right ≡ most_word
-  pub long_x : length x ≡ most_word
-  pub long_y : length y ≡ most_word
-
 -- ---- the tests at the steps from a pair
 
 module _ (m gap : List ℕ) (P : ℕ → ℕ → Type 0) where
@@ -38,76 +33,86 @@ module _ (m gap : List ℕ) (P : ℕ → ℕ → Type 0) where
   pub record StepsPass (i high : ℕ) : Type 0 where
     pub pass : (label j : ℕ) → label < high → Steps m m i label → target_of m m i label ≡ j → get_or gap j 0 ≢ 0 → P label j
 
-  -- P does not hold of the step with a label from i to the pair j, which counts
-  pub record Failing (i label j : ℕ) : Type 0 where
-    pub step : Steps m m i label
-    pub target : target_of m m i label ≡ j
-    pub marked : get_or gap j 0 ≢ 0
-    pub fails : P label j → ⊥
+  -- P does not hold of the step s from i to a pair that counts
+  pub record Failing (i : ℕ) (s : StepTo) : Type 0 where
+    pub step : Steps m m i s.label
+    pub target : target_of m m i s.label ≡ s.to
+    pub marked : get_or gap s.to 0 ≢ 0
+    pub fails : P s.label s.to → ⊥
 
-  -- the answer: no step, and P holds of them all, or one of which it does not hold
-  pub record Tried (i label j : ℕ) : Type 0 where
-    pub passed : label ≡ fine → StepsPass i no_step_of
-    pub failing : label ≢ fine → Failing i label j
-    pub low : label ≤ fine
+-- P holds of the step s, if it leads to a pair that counts
+pub record Holds (gap : List ℕ) (P : ℕ → ℕ → Type 0) (s : StepTo) : Type 0 where
+  pub low : Label s.label
+  pub holds : get_or gap s.to 0 ≢ 0 → P s.label s.to
 
--- P holds of the step with a label to j, if j is a pair that counts
-pub record Seen (gap : List ℕ) (P : ℕ → ℕ → Type 0) (label j : ℕ) : Type 0 where
-  pub low : j < most_pairs → Label label
-  pub holds : j < most_pairs → get_or gap j 0 ≢ 0 → P label j
-
--- if p is a pair, two lists hold what the two sides of the way out of it write, from the places of p on
-abbrev pub NextHeld : (written out out_step left right : List ℕ) → OnWay → Type 0
-NextHeld written out out_step left right p =
-    p.pair < most_pairs → WayHeld written out out_step p.pair left p.left right p.right
-
--- two lists hold what the two sides need at the pair p, with the gap g, from the places of p on
-pub record NeedsHeld (written out out_step left right : List ℕ) (g : ℕ) (p : OnWay) : Type 0 where
-  pub within_left : p.left + lack_of false g ≤ length left
-  pub within_right : p.right + lack_of true g ≤ length right
-  pub left_needs : take (lack_of false g) (drop p.left left) ≡ needs_of written out out_step false p.pair
-  pub right_needs : take (lack_of true g) (drop p.right right) ≡ needs_of written out out_step true p.pair
-
--- what the tests at the steps from i rely on: the two buffers have what each side needs at i
-pub record Testing (m written out out_step gap x : List ℕ) (a : ℕ) (y : List ℕ) (b i : ℕ) : Type 0 where
-  pub measured : Measured m written out out_step gap
-  pub inside : i < most_pairs
-  pub fronts : Fronts (get_or gap i 0) x a y b
-  pub x_needs : take a x ≡ needs_of written out out_step true i
-  pub y_needs : take b y ≡ needs_of written out out_step false i
+-- P holds of the last step, if there is one
+abbrev pub Seen : (gap : List ℕ) → (ℕ → ℕ → Type 0) → Option StepTo → Type 0
+Seen gap P last = IfSome last (Holds gap P)
 
 -- ---- the tests at the pairs
 
--- the gap g of a pair v of start states is not that of two sides that write equally much
-pub record Uneven (starts : StateSet) (g v : ℕ) (r : Bool) : Type 0 where
-  pub even : r ≡ false → PairIn starts starts v → g ≡ level
-  pub start : r ≡ true → PairIn starts starts v
-  pub uneven : r ≡ true → g ≢ level
+module _ (x : TestLists) where
+  -- the gap of a pair, which is not 0 where the pair counts
+  abbrev pub gap_at : ℕ → ℕ
+  gap_at i = get_or x.ways.gap i 0
 
-module _ (starts : StateSet) (m written out out_step gap : List ℕ) where
+  -- what the right side, or the left, needs at the pair i
+  abbrev pub needs_at : Bool → ℕ → List ℕ
+  needs_at right i = needs_of x.ways.written x.ways.link x.ways.label right i
+
+  -- the equation at the steps from i
+  abbrev pub EquationFrom : ℕ → ℕ → ℕ → Type 0
+  EquationFrom i = StepHolds x.ways.written x.ways.link x.ways.label i
+
+  -- the machine, and the gaps of the pairs that count, 0 for the others; a pair that counts has a way out by pairs that count
+  pub record Measured : Type 0 where
+    pub machine : Machine x.machine
+    pub grounds : Grounds x.ways.written x.ways.link x.ways.label x.ways.gap
+    pub onward : (v : ℕ) → gap_at v ≢ 0 → get_or x.ways.link v 0 ≢ 0 → gap_at (get_or x.ways.link v 0 - 1) ≢ 0
+
+  -- i is a pair that counts
+  abbrev pub Counts : ℕ → Type 0
+  Counts i = (i < most_pairs) × (gap_at i ≢ 0)
+
+  -- what each side needs at the pair i
+  pub record NeedsAt (i : ℕ) (needs : TwoWords) : Type 0 where
+    pub lefts : needs.left ≡ needs_at false i
+    pub rights : needs.right ≡ needs_at true i
+
+  -- the next pair on a way, with what the two sides of the way out of it write, if it is at hand
+  abbrev pub NextHeld : Option OnWay → Type 0
+  NextHeld next = IfSome next (λ p. WayHeld x.ways.written x.ways.link x.ways.label p.pair p.sides.left.now p.sides.right.now)
+
   -- the tests at the pair i: if it is a pair of start states nothing is needed there, and the equation holds at the steps to pairs that count
   pub record PairPasses (i : ℕ) : Type 0 where
-    pub start : PairIn starts starts i → needs_of written out out_step false i ≡ needs_of written out out_step true i
-    pub steps : StepsPass m gap (StepHolds written out out_step i) i no_step_of
+    pub start : PairIn x.starts x.starts i → needs_at false i ≡ needs_at true i
+    pub steps : StepsPass x.machine x.ways.gap (EquationFrom i) i no_step_of
 
-  -- a test fails at the pair i, which counts: it is an uneven pair of start states, or the equation does not hold at a step
-  pub record Broken (i label j : ℕ) : Type 0 where
-    pub inside : i < most_pairs
-    pub marked : get_or gap i 0 ≢ 0
-    pub start : label ≡ uneven → PairIn starts starts i × (get_or gap i 0 ≢ level)
-    pub step : label ≢ uneven → Failing m gap (StepHolds written out out_step i) i label j
+  -- a test fails at the pair i: it is an uneven pair of start states, or the equation does not hold at a step
+  abbrev pub BrokenAt : ℕ → At → Type 0
+  BrokenAt i Start = PairIn x.starts x.starts i × (gap_at i ≢ level)
+  BrokenAt i (Step s) = Failing x.machine x.ways.gap (EquationFrom i) i s
+
+  -- a test fails at a pair that counts
+  pub record Broken (f : Failure) : Type 0 where
+    pub inside : f.from < most_pairs
+    pub marked : gap_at f.from ≢ 0
+    pub broken : BrokenAt f.from f.at
+
+  -- the answer of the steps from i: the equation holds at them all, or a step at which it does not hold
+  abbrev pub StepsTried : ℕ → Option StepTo → Type 0
+  StepsTried i r = MatchOption r (StepsPass x.machine x.ways.gap (EquationFrom i) i no_step_of) (Failing x.machine x.ways.gap (EquationFrom i) i)
 
   -- the answer of the tests at some pairs: all of them pass, or one fails
-  pub record Answer (Pass : Type 0) (r : Failure) : Type 0 where
-    pub passed : r.label ≡ fine → Pass
-    pub failing : r.label ≢ fine → Broken r.from r.label r.to
+  abbrev pub Answer : Type 0 → Option Failure → Type 0
+  Answer Pass r = MatchOption r Pass Broken
 
   -- the answer of the tests at one pair, and at all that count
-  abbrev pub PairTried : ℕ → Failure → Type 0
+  abbrev pub PairTried : ℕ → Option Failure → Type 0
   PairTried i r = Answer (PairPasses i) r
 
-  abbrev pub AllTried : Failure → Type 0
-  AllTried r = Answer ((i : ℕ) → get_or gap i 0 ≢ 0 → PairPasses i) r
+  abbrev pub AllTried : Option Failure → Type 0
+  AllTried r = Answer ((i : ℕ) → gap_at i ≢ 0 → PairPasses i) r
 
   -- the pairs that have a flag pass
   pub record Flagged (tested : List Bool) : Type 0 where
@@ -115,5 +120,5 @@ module _ (starts : StateSet) (m written out out_step gap : List ℕ) where
     pub pass : (i : ℕ) → get_or tested i false ≡ true → PairPasses i
 
   -- the answer of the tests at the pair i and at others, which get their flags
-  abbrev pub WayTried : ℕ → List Bool → Failure → Type 0
+  abbrev pub WayTried : ℕ → List Bool → Option Failure → Type 0
   WayTried i tested r = Answer (PairPasses i × Flagged tested) r

@@ -1,27 +1,21 @@
 -- What the functionality test promises: no test fails and the transducer is functional, or one does, and then a walk is found whose two sides have
 -- different outputs. The tests: at a useful pair of start states, whether the two sides of the way out of it write equally much; at a step between
 -- useful pairs, the equation.
-use Rattle.std.specs.Prelude.{◌≡◌, true, false, List, [], ◌∷◌, ◌++◌, ◌≢◌, ℕ, ◌+◌, ◌*◌, ◌-◌, ◌≤◌, length}
+use Rattle.std.specs.Prelude.{◌≡◌, true, false, List, [], ◌∷◌, ◌++◌, ℕ, ◌*◌, ◌-◌, ◌≤◌, length, Option, MatchOption}
 use Rattle.worklist.specs.Links.{way_from}
 use Rattle.transducer.specs.Accepted.{accepted_of}
 use Rattle.transducer.specs.Paths.{writes, Functional}
 use Rattle.transducer.specs.Walks.{Step, left_of, right_from, Leaves}
 use Rattle.transducer.specs.declared.Transducer.{Transducer}
-use Rattle.product.specs.Numbers.{most_pairs, no_step_of, first_of, second_of, step_of, PairIn, Moves}
+use Rattle.product.specs.Numbers.{most_pairs, first_of, second_of, step_of, PairIn, Moves}
 use Rattle.pairs.specs.Ways.{Useful, WaysOut, Discovered}
 use Rattle.pairs.specs.declared.UsefulPairs.{UsefulPairs}
 use Rattle.witness.specs.Walk.{walk_of, output_out, Apart}
 use Rattle.equations.specs.Links.{part}
+use Rattle.equations.specs.declared.At.{At}
+use Rattle.equations.specs.declared.At.TheVariants.{Start, Step as AtStep}
 use Rattle.equations.specs.declared.Failure.{Failure}
 use Rattle.equations.specs.declared.way.Place.{Place}
-
--- no label
-abbrev pub fine : ℕ
-fine = no_step_of
-
--- what stands for a label where a pair of start states is uneven
-abbrev pub uneven : ℕ
-uneven = no_step_of + 1
 
 -- what the tests rely on: a transducer that keeps the rules, and the ways out of its useful pairs
 pub record Standing (t : Transducer) (r : UsefulPairs) (out out_step : List ℕ) : Type 0 where
@@ -42,19 +36,22 @@ pub record WayPasses (t : Transducer) (out out_step : List ℕ) (u : List Step) 
   pub leaves : Leaves t (walk_of (way_from out out_step v)) (first_of v) (second_of v)
   pub same : writes t (left_of u) ++ output_out t false leaves ≡ writes t (right_from u) ++ output_out t true leaves
 
--- where a test fails: at an uneven pair of start states the two sides of the way out of it are not the same; at a step from i to j, whatever steps
--- come before, they and the way out of i, or they, the step and the way out of j, have two sides that are not
+-- a test fails at the pair i: at an uneven pair of start states the two sides of the way out of it are not the same; at a step from i to another pair,
+-- whatever steps come before, they and the way out of i, or they, the step and the way out of that pair, have two sides that are not
+abbrev pub DiffersAt : Transducer → (out out_step : List ℕ) → ℕ → At → Type 0
+DiffersAt t out out_step i Start = PairIn t.starts t.starts i × (WayPasses t out out_step [] i → ⊥)
+DiffersAt t out out_step i (AtStep s) =
+    Useful t s.to × Moves t i s.label s.to
+    × ((u : List Step) → WayPasses t out out_step u i → WayPasses t out out_step (u ++ (step_of s.label ∷ [])) s.to → ⊥)
+
+-- where a test fails: at a useful pair
 pub record Differing (t : Transducer) (out out_step : List ℕ) (f : Failure) : Type 0 where
   pub useful : Useful t f.from
-  pub start : f.label ≡ uneven → PairIn t.starts t.starts f.from × (WayPasses t out out_step [] f.from → ⊥)
-  pub step : f.label ≢ uneven
-      → Useful t f.to × Moves t f.from f.label f.to
-      × ((u : List Step) → WayPasses t out out_step u f.from → WayPasses t out out_step (u ++ (step_of f.label ∷ [])) f.to → ⊥)
+  pub differs : DiffersAt t out out_step f.from f.at
 
 -- the answer of all tests
-pub record Tested (t : Transducer) (out out_step : List ℕ) (r : Failure) : Type 0 where
-  pub passed : r.label ≡ fine → Functional t
-  pub failing : r.label ≢ fine → Differing t out out_step r
+abbrev pub Tested : Transducer → (out out_step : List ℕ) → Option Failure → Type 0
+Tested t out out_step r = MatchOption r (Functional t) (Differing t out out_step)
 
 -- the labels at the place p are those of a walk from two start states to two final states, of at most 2u - 1 steps, whose sides have different outputs
 pub record Fails (t : Transducer) (u : ℕ) (steps : List ℕ) (p : Place) : Type 0 where

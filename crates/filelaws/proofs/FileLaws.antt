@@ -12,8 +12,7 @@ use Rattle.transducer.proofs.LineLaws.{lines_long, made_lines}
 use Rattle.tablereader.specs.Reader.{read_of}
 use Rattle.tablereader.specs.Transitions.{code_of, transition_with}
 use Rattle.tablereader.specs.Outcome as outcome
-use Rattle.tablereader.specs.declared.Reading.{Reading}
-use Rattle.tablereader.proofs.Outcomes.{taken_number}
+use Rattle.tablereader.specs.Outcome.{table_of_reading}
 use Rattle.tablereader.proofs.Validity.{read_accepted}
 use Rattle.tablereader.proofs.ReadLaws.{read_shaped}
 use Rattle.tablewriter.specs.File.{transition_bytes_below, header_bytes, write_of}
@@ -46,7 +45,7 @@ made_with t lines = written_with made ∙ same ∙ ap (file_with t) (made_lines 
 
 -- a file that is taken is its table's
 pub taken_written : (f : List ℕ) → Taken f → f ≡ write_of (table_of f)
-taken_written f taken = sym (round_trips.written_read f (taken_number (read_of f).outcome taken))
+taken_written f taken = sym (round_trips.written_read f taken)
 
 -- and so that of its table's lines
 pub taken_with : (f : List ℕ) → Taken f → f ≡ file_with (table_of f) (lines_of (table_of f))
@@ -68,6 +67,6 @@ edit_of_file f e whole none =
     let read = round_trips.read_written (edit_of t e) (edit_accepted t e accepted none) shaped in
     record {
       bytes = made_with t (edit_lines (lines_of t) e);
-      taken = ap (λ (r : Reading). outcome.number_of r.outcome) read;
-      table = ap (λ (r : Reading). r.table) read;
+      taken = ap outcome.number_of read;
+      table = ap table_of_reading read;
     }

@@ -6,7 +6,7 @@ use Rattle.transducer.specs.Lines.{lines_of}
 use Rattle.transducer.specs.declared.Transducer.{Transducer}
 use Rattle.tablereader.specs.Reader.{read_of}
 use Rattle.tablereader.specs.Outcome as outcome
-use Rattle.tablereader.specs.declared.Reading.{Reading}
+use Rattle.tablereader.specs.Outcome.{table_of_reading}
 use Rattle.tablereader.proofs.Validity.{read_accepted}
 use Rattle.tablereader.proofs.ReadLaws.{read_shaped}
 use Rattle.tablewriter.specs.File.{write_of}
@@ -26,10 +26,10 @@ use Rattle.filelaws.proofs.FileLaws.{made_with, taken_with}
 -- what is asked of a file is answered for what it is read to
 module _ (f : List ℕ) (t : Transducer) (read : read_of f ≡ taken_as t) where
   taken : Taken f
-  taken = ap (λ (r : Reading). outcome.number_of r.outcome) read
+  taken = ap outcome.number_of read
 
   table : table_of f ≡ t
-  table = ap (λ (r : Reading). r.table) read
+  table = ap table_of_reading read
 
   pub served_alike : ServedAlike (file f) (value t)
   served_alike =

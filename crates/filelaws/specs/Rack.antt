@@ -14,10 +14,8 @@ use Rattle.tablefile.specs.RoundTrips.{taken_as}
 use Rattle.edits.specs.Edits.{Edit, edit_lines, edit_of}
 use Rattle.edits.specs.Rows.{after_edits, InARow}
 use Rattle.witness.specs.Showing.{Buffers}
-use Rattle.engine.specs.Engine.{Taken, table_of}
+use Rattle.engine.specs.Engine.{Taken, table_of, Judgement, FileTranslation}
 use Rattle.engine.specs.Demand3.{Served, file, value, VerdictFor, AnswerFor, Demand3}
-use Rattle.engine.specs.declared.Judgement.{Judgement}
-use Rattle.engine.specs.declared.FileTranslation.{FileTranslation}
 
 -- the file of t with these lines in the place of its own: a `T` that counts them, the `S` and `F` of t, and an `L` for each of them
 unfoldable pub file_with : Transducer → List Transition → List ℕ

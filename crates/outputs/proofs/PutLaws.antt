@@ -1,65 +1,41 @@
--- The loops that copy codes out of a list, and that compare two entries. Assumes nothing.
+-- What is copied behind a part of a buffer, and where two entries are the same. Assumes nothing.
 use mathlib.Core.Path.{◌≡◌, refl, sym, ap, ◌∙◌}
-use mathlib.Core.List.{List, [], ◌∷◌, ◌++◌, append_assoc, append-nil}
-use mathlib.Core.Bool.{Bool, true, false, ◌&&◌}
+use mathlib.Core.List.{List, [], ◌∷◌, ◌++◌}
+use mathlib.Core.Bool.{Bool, true}
 use mathlib.Core.Logic.{⊎_elim, ◌↔◌}
-use Prim.Native.Nat.{ℕ, zero, suc, ◌+◌, ◌*◌, ◌≤◌, ◌<◌}
-use native.Mathlib.Numerals.{add-one}
+use Prim.Native.Nat.{ℕ, zero, suc, ◌+◌, ◌*◌, ◌-◌, ◌≤◌, ◌<◌}
 use native.Mathlib.Omega.{arith}
-use borrow.Author.Tests.{eqb-true, eq-eqb}
+use borrow.Rule.Slice.PartMut.{put_mid}
 use lib.Dec.{eqb}
-use lib.ListN.{length, take, drop, get_or, set, length-set, length-drop}
-use lib.Seq.{take-suc, take-suc-set, take-take, take-append-add, length-take-le, get_or-drop}
+use Rattle.std.proofs.Common.{length-take}
+use Rattle.std.specs.Bool.{Decides}
+use Rattle.std.specs.List.{slice_range, starts_with}
+use Rattle.std.proofs.lemmas.Bool.Decides.{Decides-eqb}
+use Rattle.std.proofs.lemmas.Slice.Eq.{slice_eq-Decides}
+use lib.ListN.{length, take, drop, get_or, length-drop}
+use lib.Seq.{take-suc, take-take, take-append-add, take-append-le, take_all, length-take-le, get_or-drop, get_or-take, ext_get_or}
 use Rattle.transducer.specs.Limits.{most_outputs}
 use Rattle.transducer.specs.Transition.{firsts}
-use Rattle.transducer.specs.Valid.{all_below}
-use Rattle.transducer.proofs.Bools.{le_or_lt, and_left, and_right, and_both, all_at, all_of}
-use Rattle.transducer.proofs.SizeLaws.{length_firsts}
+use Rattle.transducer.proofs.Bools.{le_or_lt}
 use Rattle.transducer.proofs.LineLaws.{get_d_firsts}
 use Rattle.product.specs.Numbers.{no_transition}
-use Rattle.outputs.specs.Outputs.{entry, count_at, codes_at, Outputs, Appends}
-use Rattle.outputs.proofs.OutputLaws.{firsts_same, length_codes, take_firsts}
+use Rattle.outputs.specs.Outputs.{entry, written_places, count_at, codes_at, Entries, Appends, HeldAt}
+use Rattle.outputs.proofs.OutputLaws.{firsts_same, length_codes}
 
--- ---- the loops of `put` and `copy`
+-- ---- copying
 
--- the first j values of f stand behind the first p places of the buffer
-pub record Putting (f : ℕ → ℕ) (before : List ℕ) (p : ℕ) (after : List ℕ) (j : ℕ) : Type 0 where
-  pub long : length after ≡ length before
-  pub front : take (p + j) after ≡ take p before ++ firsts j f
-
-pub putting_none : (f : ℕ → ℕ) (before : List ℕ) (p : ℕ) → Putting f before p before 0
-unfolding firsts
-putting_none f before p =
-    let e : p + 0 ≡ p = omega arith in
-    record { long = refl; front = ap (λ n. take n before) e ∙ sym (append-nil (take p before)) }
-
-pub putting_more : (f : ℕ → ℕ) {before after : List ℕ} {p j : ℕ} → Putting f before p after j → p + j < length before
-    → Putting f before p (set after (p + j) (f j)) (j + 1)
-unfolding firsts
-putting_more f {before} {after} {p} {j} e room =
-    let n : p + (j + 1) ≡ suc (p + j) = omega arith in
-    record {
-      long = length-set after (p + j) (f j) ∙ e.long;
-      front =
-          ap (λ k. take k (set after (p + j) (f j))) n
-          ∙ take-suc-set after (p + j) (f j) (omega (arith, e.long))
-          ∙ ap (λ (z : List ℕ). z ++ (f j ∷ [])) e.front
-          ∙ append_assoc (take p before) (firsts j f) (f j ∷ [])
-          ∙ ap (λ k. take p before ++ firsts k f) (sym (add-one j));
-    }
-
-pub putting_done : (f : ℕ → ℕ) {before after : List ℕ} {p j : ℕ} → Putting f before p after j → (n : ℕ) → n ≤ j → p ≤ length before
-    → Appends before p (firsts n f) after (p + n)
-putting_done f {before} {after} {p} {j} e n h room =
+-- a part is put into a buffer behind its first p places: its first n values stand there
+pub appends_copied : (before part : List ℕ) (p k n : ℕ) → p ≤ length before → n ≤ length part
+    → Appends before p (take n part) (put_mid p k before part) (p + n)
+appends_copied before part p k n room few =
     let long : length (take p before) ≡ p = length-take-le p before room in
+    let rest = drop k (drop p before) in
     record {
-      place = omega (arith, length_firsts n f);
+      place = omega (arith, length-take-le n part few);
       front =
-          sym (take-take (p + n) (p + j) after (omega arith))
-          ∙ ap (take (p + n)) e.front
-          ∙ ap (λ k. take (k + n) (take p before ++ firsts j f)) (sym long)
-          ∙ take-append-add (take p before) (firsts j f) n
-          ∙ ap (λ (z : List ℕ). take p before ++ z) (take_firsts n j f h);
+          ap (λ m. take (m + n) (take p before ++ (part ++ rest))) (sym long)
+          ∙ take-append-add (take p before) (part ++ rest) n
+          ∙ ap (λ (z : List ℕ). take p before ++ z) (take-append-le n part rest few);
     }
 
 -- n values of a list, from the place p on
@@ -71,29 +47,57 @@ firsts_part list p (suc n) h =
     ∙ ap (λ k. take n (drop p list) ++ (k ∷ [])) (sym (get_or-drop p list n 0))
     ∙ sym (take-suc (drop p list) n 0 (omega (arith, length-drop p list)))
 
--- ---- the loop of `same`
+-- the codes of an entry are a part of the list
+pub codes_part : {written : List ℕ} → Entries written → (l : ℕ) → l ≤ no_transition
+    → codes_at written l ≡ take (count_at written l) (drop (l * entry + 1) written)
+codes_part {written} o l low = firsts_part written (l * entry + 1) (count_at written l) (omega (arith, o.few l low, o.long))
 
--- whether the entries agree at the place of their code j
-abbrev pub agree_at : List ℕ → ℕ → ℕ → ℕ → Bool
-agree_at written l m j = eqb (get_or written (l * entry + 1 + j) 0) (get_or written (m * entry + 1 + j) 0)
+-- they are the first of the places that are copied
+pub appends_codes : {written : List ℕ} → Entries written → (l : ℕ) → l ≤ no_transition → {before part : List ℕ} {p : ℕ} (k : ℕ) → p ≤ length before
+    → part ≡ slice_range written (l * entry + 1) (l * entry + entry) → Appends before p (codes_at written l) (put_mid p k before part) (p + count_at written l)
+appends_codes {written} o l low {before} {part} {p} k room e =
+    let few = o.few l low in
+    let all = drop (l * entry + 1) written in
+    let n : l * entry + entry - (l * entry + 1) ≡ most_outputs = omega arith in
+    let is : part ≡ take most_outputs all = e ∙ ap (λ m. take m all) n in
+    rw (codes_part o l low ∙ sym (take-take (count_at written l) most_outputs all few) ∙ ap (take (count_at written l)) (sym is))
+    (appends_copied before part p k (count_at written l) room (omega (arith, ap length is, length-take-le most_outputs all (omega (arith, length-drop (l * entry + 1) written, o.long)))))
 
--- a first test, and then f at each number below j
-pub and_none : (b : Bool) (f : ℕ → Bool) → b ≡ (b && all_below 0 f)
-unfolding all_below
-and_none true f = refl
-and_none false f = refl
+-- ---- comparing
 
-and_join : (a b d : Bool) → (a && b && d) ≡ (a && (b && d))
-and_join true b d = refl
-and_join false b d = refl
+-- codes that a buffer begins with behind its first p places
+pub held_exactly : {written : List ℕ} → Entries written → (l : ℕ) → l ≤ no_transition → (word : List ℕ) (p : ℕ) → p ≤ length word → {r : Bool}
+    → r ≡ starts_with eqb (slice_range word p (length word)) (slice_range written (l * entry + 1) (l * entry + 1 + count_at written l))
+    → (r ≡ true) ↔ HeldAt word p (codes_at written l)
+held_exactly {written} o l low word p room {r} e = (there, back)
+  where
+    codes : List ℕ
+    codes = codes_at written l
 
-pub and_more : (e : Bool) (f : ℕ → Bool) (j : ℕ) {b d : Bool} → b ≡ (e && all_below j f) → d ≡ f j → (b && d) ≡ (e && all_below (j + 1) f)
-unfolding all_below
-and_more e f j p q = rw (add-one, p, q) (and_join e (all_below j f) (f j))
+    is : slice_range written (l * entry + 1) (l * entry + 1 + count_at written l) ≡ codes
+    is = ap (λ m. take m (drop (l * entry + 1) written)) (let n : l * entry + 1 + count_at written l - (l * entry + 1) ≡ count_at written l = omega arith in n) ∙ sym (codes_part o l low)
+
+    rest : slice_range word p (length word) ≡ drop p word
+    rest = take_all (length word - p) (drop p word) (omega (arith, length-drop p word))
+
+    decides : Decides r (codes ≡ take (length codes) (drop p word))
+    decides = slice_eq-Decides Decides-eqb codes (take (length codes) (drop p word)) r (rw (is, rest) at e)
+
+    there : r ≡ true → HeldAt word p codes
+    there h =
+        let same = decides.0 h in
+        record { within = omega (arith, ap length same, length-take (length codes) (drop p word), length-drop p word); is = sym same }
+
+    back : HeldAt word p codes → r ≡ true
+    back h = decides.1 (sym h.is)
+
+-- the places of an entry
+abbrev pub entry_at : List ℕ → ℕ → List ℕ
+entry_at written l = slice_range written (l * entry) (l * entry + entry)
 
 -- two entries have the same codes exactly where they agree at all places
-pub same_exactly : {written : List ℕ} → Outputs written → (l m : ℕ) → l ≤ no_transition → m ≤ no_transition
-    → ((eqb (count_at written l) (count_at written m) && all_below most_outputs (agree_at written l m)) ≡ true) ↔ (codes_at written l ≡ codes_at written m)
+pub same_exactly : {written : List ℕ} → Entries written → (l m : ℕ) → l ≤ no_transition → m ≤ no_transition
+    → (entry_at written l ≡ entry_at written m) ↔ (codes_at written l ≡ codes_at written m)
 same_exactly {written} o l m low low' = (there, back)
   where
     f : ℕ → ℕ
@@ -102,20 +106,56 @@ same_exactly {written} o l m low low' = (there, back)
     g : ℕ → ℕ
     g j = get_or written (m * entry + 1 + j) 0
 
-    there : (eqb (count_at written l) (count_at written m) && all_below most_outputs (agree_at written l m)) ≡ true → codes_at written l ≡ codes_at written m
-    there h =
-        let b = and_right (eqb (count_at written l) (count_at written m)) (all_below most_outputs (agree_at written l m)) h in
-        firsts_same (count_at written l) f g (λ j k. eqb-true _ _ (all_at most_outputs (agree_at written l m) b j (omega (arith, o.few l low))))
-        ∙ ap (λ k. firsts k g) (eqb-true _ _ (and_left (eqb (count_at written l) (count_at written m)) (all_below most_outputs (agree_at written l m)) h))
+    long : (k : ℕ) → k ≤ no_transition → length (entry_at written k) ≡ entry
+    long k h = omega (arith, length-take-le (k * entry + entry - k * entry) (drop (k * entry) written) (omega (arith, length-drop (k * entry) written, o.long)))
 
-    back : codes_at written l ≡ codes_at written m → (eqb (count_at written l) (count_at written m) && all_below most_outputs (agree_at written l m)) ≡ true
-    back e =
+    place : (k i p : ℕ) → i < entry → p ≡ k * entry + i → get_or (entry_at written k) i 0 ≡ get_or written p 0
+    place k i p h e =
+        get_or-take (k * entry + entry - k * entry) (drop (k * entry) written) i 0 (omega arith) ∙ get_or-drop (k * entry) written i 0
+        ∙ ap (λ q. get_or written q 0) (sym e)
+
+    there : entry_at written l ≡ entry_at written m → codes_at written l ≡ codes_at written m
+    there e =
+        let n : count_at written l ≡ count_at written m =
+        sym (place l 0 (l * entry) (omega arith) (omega arith)) ∙ ap (λ w. get_or w 0 0) e ∙ place m 0 (m * entry) (omega arith) (omega arith)
+        in
+        firsts_same (count_at written l) f g
+        (λ j k.
+        let b : 1 + j < entry = omega (arith, o.few l low) in
+        sym (place l (1 + j) (l * entry + 1 + j) b (omega arith)) ∙ ap (λ w. get_or w (1 + j) 0) e
+        ∙ place m (1 + j) (m * entry + 1 + j) b (omega arith))
+        ∙ ap (λ k. firsts k g) n
+
+    -- the codes are the same at all places, since those beyond them hold 0
+    code : codes_at written l ≡ codes_at written m → (j : ℕ) → j < most_outputs → f j ≡ g j
+    code e j b =
         let n : count_at written l ≡ count_at written m = sym (length_codes written l) ∙ ap length e ∙ length_codes written m in
-        and_both (eq-eqb _ _ n)
-        (all_of most_outputs (agree_at written l m)
-        (λ j b. eq-eqb _ _
-        (⊎_elim
+        ⊎_elim
         (λ (k : count_at written l ≤ j). o.clear l low j k b ∙ sym (o.clear m low' j (omega arith) b))
         (λ (k : j < count_at written l).
         sym (get_d_firsts (count_at written l) f 0 j k) ∙ ap (λ w. get_or w j 0) e ∙ get_d_firsts (count_at written m) g 0 j (omega arith))
-        (le_or_lt (count_at written l) j))))
+        (le_or_lt (count_at written l) j)
+
+    each : codes_at written l ≡ codes_at written m → (i : ℕ) → i < entry → get_or (entry_at written l) i 0 ≡ get_or (entry_at written m) i 0
+    each e zero h =
+        place l 0 (l * entry) h (omega arith) ∙ sym (length_codes written l) ∙ ap length e ∙ length_codes written m
+        ∙ sym (place m 0 (m * entry) h (omega arith))
+    each e (suc j) h =
+        place l (suc j) (l * entry + 1 + j) h (omega arith) ∙ code e j (omega arith) ∙ sym (place m (suc j) (m * entry + 1 + j) h (omega arith))
+
+    back : codes_at written l ≡ codes_at written m → entry_at written l ≡ entry_at written m
+    back e =
+        ext_get_or 0 (entry_at written l) (entry_at written m) (long l low ∙ sym (long m low')) (λ i h. each e i (omega (arith, long l low)))
+
+-- the places of an entry begin what stands in the list from its place on
+pub begins_exactly : {written : List ℕ} → Entries written → (l m : ℕ) → l ≤ no_transition → m ≤ no_transition → {r : Bool}
+    → r ≡ starts_with eqb (slice_range written (l * entry) written_places) (entry_at written m) → (r ≡ true) ↔ (codes_at written l ≡ codes_at written m)
+begins_exactly {written} o l m low low' {r} e =
+    let rest = drop (l * entry) written in
+    let all : slice_range written (l * entry) written_places ≡ rest = take_all (written_places - l * entry) rest (omega (arith, length-drop (l * entry) written, o.long)) in
+    let size : length (entry_at written m) ≡ l * entry + entry - l * entry =
+    omega (arith, length-take-le (m * entry + entry - m * entry) (drop (m * entry) written) (omega (arith, length-drop (m * entry) written, o.long)))
+    in
+    let d = slice_eq-Decides Decides-eqb (entry_at written m) (entry_at written l) r (rw (all, size) at e) in
+    let s = same_exactly o l m low low' in
+    (λ h. s.0 (sym (d.0 h)), λ h. d.1 (sym (s.1 h)))

@@ -6,6 +6,7 @@ use mathlib.Core.Logic.{◌↔◌}
 use Prim.Native.Nat.{ℕ, ◌<◌}
 use native.Mathlib.Decide.{dec_lt}
 use native.Mathlib.Omega.{arith}
+use Rattle.std.specs.Prelude.{Ok}
 use lib.ListN.{get_or, get_or-eq_default}
 use Rattle.transducer.specs.Accepted.{accepted_of}
 use Rattle.transducer.specs.declared.Transducer.{Transducer}
@@ -19,7 +20,7 @@ use Rattle.pairs.proofs.TreeLaws.{useful_low}
 use Rattle.pairs.proofs.PairSetLaws.{not_valid, pair_flag}
 
 -- the numbers that stand for the set of the useful pairs allow exactly these
-pub marked_useful : {t : Transducer} {r : UsefulPairs} {numbers : List ℕ} → accepted_of t ≡ true → UsefulPairsOf t r
+pub marked_useful : {t : Transducer} {r : UsefulPairs} {numbers : List ℕ} → accepted_of t ≡ true → UsefulPairsOf t (Ok r)
     → Marked (is_member r.set) numbers most_pairs → (v : ℕ) → Allowed numbers v ↔ Useful t v
 marked_useful {t} {r} {numbers} accepted a m v = go (dec_lt v most_pairs)
   where

@@ -9,17 +9,19 @@ use borrow.Author.Tests.{lt-ltb, ltb-true}
 use lib.Dec.{ltb}
 use lib.ListN.{length, get_or, replicate, length-map, length-replicate, get_or-map}
 use lib.Seq.{ext_get_or}
+use Rattle.std.specs.Prelude.{Result, Ok, Err}
 use Rattle.worklist.specs.Lists.{Worklist, zeros}
 use Rattle.transducer.specs.Limits.{most_states}
 use Rattle.transducer.specs.Accepted.{accepted_of}
+use Rattle.transducer.specs.declared.refusals.Refusal.{Refusal}
 use Rattle.transducer.specs.declared.StateSet.{StateSet}
 use Rattle.transducer.specs.declared.Transducer.{Transducer}
 use Rattle.transducer.proofs.Bools.{and_left, and_right, same_flag}
 use Rattle.transducer.proofs.AcceptedLaws.{accepted_valid}
+use Rattle.transducer.proofs.RefusalLaws.{same_answer}
 use Rattle.product.specs.Numbers.{most_pairs, pair_of, first_of, second_of}
-use Rattle.pairs.specs.UsefulPairs.{has_pair, no_pairs_of, pair_set_of, count_true, number_of, UsefulPairsOf}
+use Rattle.pairs.specs.UsefulPairs.{has_pair, no_pairs_of, pair_set_of, count_true, found_of, UsefulPairsOf}
 use Rattle.pairs.specs.Ways.{Tree}
-use Rattle.pairs.specs.declared.Outcome.{Outcome}
 use Rattle.pairs.specs.declared.PairSet.{PairSet}
 use Rattle.pairs.specs.declared.UsefulPairs.{UsefulPairs}
 use Rattle.product.proofs.LabelLaws.{pair_first, pair_second, pair_again}
@@ -83,7 +85,7 @@ not_valid p q = let z : ◌≡◌ {A = ℕ} 0 1 = cc in absurd (omega arith)
 
 -- the answer of a search that has found exactly the useful pairs
 pub answer : {t : Transducer} {ends : StateSet} {Leads : ℕ → ℕ → ℕ → Type 0} {s : Worklist} → accepted_of t ≡ true → Tree t ends Leads s
-    → UsefulPairsOf t (record { outcome = Outcome.Found; set = pair_set_of s.rank; count = s.count })
+    → UsefulPairsOf t (Ok (record { set = pair_set_of s.rank; count = s.count }))
 unfolding pair_set_of
 answer {t} {s = s} accepted tree =
     record {
@@ -103,7 +105,7 @@ answer {t} {s = s} accepted tree =
     }
 
 -- the answer to a transducer that breaks a rule
-pub refusal : {t : Transducer} → accepted_of t ≡ false → UsefulPairsOf t (record { outcome = Outcome.Invalid; set = no_pairs_of; count = 0 })
+pub refusal : {t : Transducer} → accepted_of t ≡ false → UsefulPairsOf t (Err Refusal.Invalid)
 unfolding no_pairs_of
 refusal invalid =
     record {
@@ -115,33 +117,30 @@ refusal invalid =
     }
 
 -- the contract determines the answer
-pub useful_pairs_determined : {t : Transducer} {r r' : UsefulPairs} → UsefulPairsOf t r → UsefulPairsOf t r' → r ≡ r'
+pub useful_pairs_determined : {t : Transducer} {r r' : Result UsefulPairs Refusal} → UsefulPairsOf t r → UsefulPairsOf t r' → r ≡ r'
 useful_pairs_determined {t} {r} {r'} a a' =
-    let set = sets in
-    let outcome = outcomes r.outcome r'.outcome (a.number ∙ sym a'.number) in
-    let count = a.counted ∙ ap (λ s. count_true s.member) set ∙ sym a'.counted in
-    λ i. record { outcome = outcome i; set = set i; count = count i }
+    same_answer r r' (a.number ∙ sym a'.number) (λ x y p p'. sym (ap found_of p) ∙ found ∙ ap found_of p')
   where
-    outcomes : (o o' : Outcome) → number_of o ≡ number_of o' → o ≡ o'
-    outcomes Outcome.Found Outcome.Found e = refl
-    outcomes Outcome.Found Outcome.Invalid e = absurd (omega arith)
-    outcomes Outcome.Invalid Outcome.Found e = absurd (omega arith)
-    outcomes Outcome.Invalid Outcome.Invalid e = refl
-
-    sets : r.set ≡ r'.set
+    sets : (found_of r).set ≡ (found_of r').set
     sets = go (accepted_of t) refl
       where
-        go : (b : Bool) → accepted_of t ≡ b → r.set ≡ r'.set
+        go : (b : Bool) → accepted_of t ≡ b → (found_of r).set ≡ (found_of r').set
         go true e =
-            same_pairs r.set r'.set a.long a'.long
+            same_pairs (found_of r).set (found_of r').set a.long a'.long
             (λ p q. same_flag _ _ (λ h. (a'.members e p q).1 ((a.members e p q).0 h)) (λ h. (a.members e p q).1 ((a'.members e p q).0 h)))
         go false e = a.refused e ∙ sym (a'.refused e)
 
+    found : found_of r ≡ found_of r'
+    found =
+        let set = sets in
+        let count = a.counted ∙ ap (λ s. count_true s.member) set ∙ sym a'.counted in
+        λ i. record { set = set i; count = count i }
+
 -- there are at most `most_pairs` useful pairs
-pub at_most_pairs : {t : Transducer} {r : UsefulPairs} → UsefulPairsOf t r → r.count ≤ most_pairs
-at_most_pairs {r = r} a = omega (arith, a.counted, count_most r.set.member, a.long)
+pub at_most_pairs : {t : Transducer} {r : Result UsefulPairs Refusal} → UsefulPairsOf t r → (found_of r).count ≤ most_pairs
+at_most_pairs {r = r} a = omega (arith, a.counted, count_most (found_of r).set.member, a.long)
 
 -- a refusal comes with none
-pub none_refused : {t : Transducer} {r : UsefulPairs} → UsefulPairsOf t r → accepted_of t ≡ false → r.count ≡ 0
+pub none_refused : {t : Transducer} {r : Result UsefulPairs Refusal} → UsefulPairsOf t r → accepted_of t ≡ false → (found_of r).count ≡ 0
 unfolding no_pairs_of
 none_refused a invalid = a.counted ∙ ap (λ s. count_true s.member) (a.refused invalid) ∙ count_none most_pairs

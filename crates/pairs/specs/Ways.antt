@@ -1,6 +1,6 @@
 -- The ways into and out of the useful pairs. A way is kept as links: for each pair the number of the next one, plus 1, and the label of the step
 -- between the two; 0 where the way ends.
-use Rattle.std.specs.Prelude.{cond, ◌≡◌, List, ◌↔◌, ◌≢◌, ℕ, ◌+◌, ◌-◌, ◌≤◌, ◌<◌, eqb, length, get_or}
+use Rattle.std.specs.Prelude.{cond, ◌≡◌, List, ◌↔◌, ◌≢◌, ℕ, ◌+◌, ◌-◌, ◌≤◌, ◌<◌, eqb, length, get_or, Ok}
 use Rattle.worklist.specs.Lists.{Worklist, Found}
 use Rattle.worklist.specs.Search.{Grown, Chain}
 use Rattle.worklist.specs.Links.{way_from}
@@ -36,7 +36,7 @@ module _ (t : Transducer) (ends : StateSet) (Leads : ℕ → ℕ → ℕ → Typ
 
 -- the useful pairs, and for each a way out, to two final states
 pub record WaysOut (t : Transducer) (r : UsefulPairs) (out out_step : List ℕ) : Type 0 where
-  pub pairs : UsefulPairsOf t r
+  pub pairs : UsefulPairsOf t (Ok r)
   pub way_out : Way t t.finals (MovesBack t) out out_step r.count
 
 -- the first `count` places of `order` have the useful pairs in the order in which they were found

@@ -3,8 +3,7 @@
 // `Discovered` and `WayIn`, what `ways_out` and `ways_in` leave. specs/Promises.antt has what else the verdict may know of the pairs.
 #![tactic(auto)]
 
-ghost use Rattle.std.specs.Prelude.{true, false, ◌≡◌, ℕ, ◌-◌, ◌≤◌, ◌<◌, length, get_or};
-ghost use Rattle.worklist.specs.Lists.{lists};
+ghost use Rattle.std.specs.Prelude.{true, false, ◌≡◌, ℕ, ◌-◌, ◌≤◌, ◌<◌, get_or, Ok};
 ghost use Rattle.worklist.specs.Search.{Blank};
 ghost use Rattle.transducer.specs.Valid.{Valid};
 ghost use Rattle.transducer.specs.Accepted.{accepted_of};
@@ -12,13 +11,16 @@ ghost use Rattle.transducer.specs.Reversal.{reversed_of};
 ghost use Rattle.product.specs.Machine.{ImageOf};
 ghost use Rattle.product.specs.Numbers.{most_pairs};
 ghost use Rattle.product.specs.Confined.{Marked};
-ghost use Rattle.pairs.specs.UsefulPairs.{has_pair, is_member, no_pairs_of, pair_set_of, number_of, UsefulPairsOf};
+ghost use Rattle.pairs.specs.UsefulPairs.{has_pair, is_member, no_pairs_of, pair_set_of, UsefulPairsOf};
 ghost use Rattle.pairs.specs.Ways.{MovesBack, Tree, WaysOut, Discovered, WayIn, link_of, Traced, Linked};
 
-use product::machine::PLACES;
-use product::steps::PAIRS;
-use product::{machine, search};
-use transducer::{Transducer, limits, refusals};
+use product::machine::Machine;
+use product::search;
+use product::search::Confined;
+use product::steps::{PAIRS, Product};
+use transducer::refusals::Refusal;
+use transducer::{Transducer, limits};
+use worklist::Search;
 
 // A set of pairs: member[32 p + q] says whether (p, q) is in it.
 #[derive(Clone, Copy)]
@@ -26,31 +28,20 @@ pub struct PairSet {
     pub member: [bool; PAIRS],
 }
 
-// Found, or the refusal of a value that is not accepted.
-#[derive(Clone, Copy)]
-pub enum Outcome {
-    Found,
-    Invalid,
-}
-
 // The useful pairs, and how many there are (document 01: u).
 #[derive(Clone, Copy)]
 pub struct UsefulPairs {
-    pub outcome: Outcome,
     pub set: PairSet,
     pub count: u16,
 }
 
-impl Outcome {
-    // Document 01's number of the outcome, 0 where nothing is refused.
-    pub fn number(self) -> u8
-        ensures { result ≡ number_of self }
-    {
-        match self {
-            Outcome::Found => 0,
-            Outcome::Invalid => refusals::INVALID,
-        }
-    }
+// For each useful pair a way, to two final states or backwards to two start states, as links: at the pair i, link[i] is 0 where the way ends, else 1 + the
+// next pair, and label[i] the label of the step between the two. No other pair has a link. Links stay numbers with 0 for none: `Chain` of `worklist`, in
+// which the contracts spell the ways, is of such lists, and an Option for each pair would be twice as long.
+#[derive(Drop)]
+pub struct Links {
+    pub link: [u16; PAIRS],
+    pub label: [u32; PAIRS],
 }
 
 impl PairSet {
@@ -69,187 +60,145 @@ impl PairSet {
     pub fn contains(self, p: u8, q: u8) -> bool
         ensures { result ≡ has_pair self p q }
     {
-        let i = p as usize;
-        let j = q as usize;
-        if i < limits::STATES {
-            if j < limits::STATES {
-                return self.member[i * limits::STATES + j];
-            }
-        }
-        false
+        let i = usize::from(p);
+        let j = usize::from(q);
+        i < limits::STATES && j < limits::STATES && self.member[i * limits::STATES + j]
     }
 }
 
-// The useful pairs of t; of a transducer that is not accepted none, with a refusal.
-pub fn useful_pairs(t: Transducer) -> UsefulPairs
+impl Links {
+    // The links of the pairs that a search has found: for the pair at each place, 1 + the pair at its parent's place, or 0 for a root; and the label of
+    // the step between the two.
+    fn along(found: &Search<PAIRS>) -> Links
+        requires { Traced found.now.order found.now.parent found.now.via found.now.count }
+        ensures { Linked found.now.order found.now.parent found.now.via result.link result.label found.now.count }
+    {
+        let mut link = [0u16; PAIRS];
+        let mut label = [0u32; PAIRS];
+        for place in 0..found.count() {
+            let v = found.node(place) as usize;
+            link[v] = link_to(found, found.parent(place));
+            label[v] = found.via(place);
+        }
+        Links { link, label }
+    }
+}
+
+// The useful pairs of t, or the refusal of a transducer that is not accepted.
+pub fn useful_pairs(t: Transducer) -> Result<UsefulPairs, Refusal>
     ensures { UsefulPairsOf t result }
 {
     if !useful::accepted(t) {
-        let none = PairSet::empty();
-        return UsefulPairs {
-            outcome: Outcome::Invalid,
-            set: none,
-            count: 0,
-        };
+        return Err(Refusal::Invalid);
     }
-    let mut m = [0u16; PLACES];
-    machine::by_input(t, &mut m);
-    let mut out = [0u16; PAIRS];
-    let mut out_step = [0u32; PAIRS];
-    let mut order = [0u32; PAIRS];
-    ways_out(t, &m, &mut out, &mut out_step, &mut order)
+    let m = Machine::by_input(t);
+    let mut found = Search::<PAIRS>::new();
+    let (pairs, _) = ways_out(t, &m, &mut found);
+    Ok(pairs)
 }
 
-// The useful pairs of t, which is accepted and whose machine is m, and for each a way out, as links: at a useful pair i, out[i] is 0 where i is a
-// pair of final states, else 1 + the pair after it, and out_step[i] the label of the step from i to there. `order` has the useful pairs in the order
-// in which they were found: each after the one to which its link leads. No other pair has a link.
-pub fn ways_out(
-    t: Transducer,
-    m: &[u16],
-    out: &mut [u16],
-    out_step: &mut [u32],
-    order: &mut [u32],
-) -> UsefulPairs
+// The useful pairs of t, which is accepted and whose machine is m, and for each a way out. `found` is left with the useful pairs in the order in which
+// they were found: each after the one to which its link leads.
+#[inline(never)]
+pub fn ways_out(t: Transducer, m: &Machine, found: &mut Search<PAIRS>) -> (UsefulPairs, Links)
     requires t_value { accepted_of t ≡ true }
     requires image_of { ImageOf t false m.now }
-    requires out_len { length out.old ≡ most_pairs }
-    requires out_step_len { length out_step.old ≡ most_pairs }
-    requires order_len { length order.old ≡ most_pairs }
-    requires by_index { (v : ℕ) → get_or out.old v 0 ≡ 0 }
-    ensures ways_out { WaysOut t result out.new out_step.new }
-    ensures discovered { Discovered t out.new order.new result.count }
+    requires blank { Blank most_pairs found.old }
+    ensures ways_out { WaysOut t result.0 result.1.link result.1.label }
+    ensures discovered { Discovered t result.1.link found.new.order found.new.count }
+    ensures count { result.0.count ≡ found.new.count }
 {
-    let mut back = [0u16; PLACES];
-    machine::by_input_reversed(t, &mut back);
-    let mut rank = [0u32; PAIRS];
-    let mut parent = [0u32; PAIRS];
-    let mut via = [0u32; PAIRS];
-    let count = search_back(t, m, &back, order, &mut rank, &mut parent, &mut via);
-    links(order, &parent, &via, count, out, out_step);
-    let set = found(&rank);
-    UsefulPairs {
-        outcome: Outcome::Found,
-        set,
-        count: count as u16,
-    }
+    let back = Machine::by_input_reversed(t);
+    search_back(t, m, &back, found);
+    let pairs = UsefulPairs {
+        set: set_of(found.ranks()),
+        count: found.count() as u16,
+    };
+    (pairs, Links::along(found))
 }
 
-// For each useful pair of t, those that `ways_out` has found, a way in, as links: at a useful pair i, into[i] is 0 where i is a pair of start states,
-// else 1 + the pair before it, and into_step[i] the label of the step from there to i. The search is confined to the useful pairs.
-pub fn ways_in(
-    t: Transducer,
-    m: &[u16],
-    pairs: UsefulPairs,
-    into: &mut [u16],
-    into_step: &mut [u32],
-)
+// For each useful pair of t, those that `ways_out` has found, a way in. The search is confined to the useful pairs.
+#[inline(never)]
+pub fn ways_in(t: Transducer, m: &Machine, pairs: UsefulPairs) -> Links
     requires t_value { accepted_of t ≡ true }
     requires image_of { ImageOf t false m.now }
-    requires useful_pairs_of { UsefulPairsOf t pairs }
-    requires into_len { length into.old ≡ most_pairs }
-    requires into_step_len { length into_step.old ≡ most_pairs }
-    requires by_index { (v : ℕ) → get_or into.old v 0 ≡ 0 }
-    ensures { WayIn t pairs.count into.new into_step.new }
+    requires useful_pairs_of { UsefulPairsOf t (Ok pairs) }
+    ensures { WayIn t pairs.count result.link result.label }
 {
-    let mut order = [0u32; PAIRS];
-    let mut rank = [0u32; PAIRS];
-    let mut parent = [0u32; PAIRS];
-    let mut via = [0u32; PAIRS];
-    let mut allowed = [0u32; PAIRS];
-    let set = pairs.set;
-    mark(set, &mut allowed);
-    let starts = t.starts;
-    let n = search::search(
-        m,
-        m,
-        starts,
-        starts,
-        &allowed,
-        &mut order,
-        &mut rank,
-        &mut parent,
-        &mut via,
-    );
-    links(&order, &parent, &via, n, into, into_step);
+    let allowed = mark(pairs.set);
+    let mut found = Search::<PAIRS>::new();
+    let forward = Confined {
+        product: Product::new(m, m),
+        starts: t.starts,
+        starts2: t.starts,
+        allowed: &allowed,
+    };
+    forward.search(&mut found);
+    Links::along(&found)
 }
 
-// Writes 1 for each pair in the set, 0 for each other.
-fn mark(set: PairSet, numbers: &mut [u32])
-    requires { length numbers.old ≡ most_pairs }
-    ensures { Marked (is_member set) numbers.new most_pairs }
+// 1 for each pair in the set, 0 for each other.
+fn mark(set: PairSet) -> [u32; PAIRS]
+    ensures { Marked (is_member set) result most_pairs }
 {
-    for v in 0..PAIRS {
-        numbers[v] = search::one_if(set.member[v]);
+    let mut numbers = [0u32; PAIRS];
+    for (v, number) in numbers.iter_mut().enumerate() {
+        *number = u32::from(set.member[v]);
     }
-}
-
-// Writes the links of the `count` pairs that a search has found: for the pair at each place, 1 + the pair at its parent's place, or 0 for a root;
-// and the label of the step between the two.
-fn links(order: &[u32], parent: &[u32], via: &[u32], count: u32, link: &mut [u16], step: &mut [u32])
-    requires traced { Traced order.now parent.now via.now count }
-    requires link_len { length link.old ≡ most_pairs }
-    requires step_len { length step.old ≡ most_pairs }
-    requires by_index { (v : ℕ) → get_or link.old v 0 ≡ 0 }
-    ensures { Linked order.now parent.now via.now link.new step.new count }
-{
-    let n = count as usize;
-    for i in 0..n {
-        let v = order[i] as usize;
-        let next = link_to(order, parent[i]);
-        link[v] = next;
-        step[v] = via[i];
-    }
+    numbers
 }
 
 // 1 + the pair at the place `from` - 1, or 0 where `from` is 0.
 #[tactic(auto, unfolding(crate::specs::Ways::link_of))]
-fn link_to(order: &[u32], from: u32) -> u16
-    requires from_in_bounds { from ≤ length order.now }
-    requires from_bound { 0 < from → get_or order.now (from - 1) 0 < most_pairs }
-    ensures { result ≡ link_of order.now from }
+fn link_to(found: &Search<PAIRS>, from: u32) -> u16
+    requires from_in_bounds { from ≤ most_pairs }
+    requires from_bound { 0 < from → get_or found.now.order (from - 1) 0 < most_pairs }
+    ensures { result ≡ link_of found.now.order from }
 {
     if from == 0 {
         return 0;
     }
-    let v = order[(from - 1) as usize];
-    v as u16 + 1
+    found.node(from - 1) as u16 + 1
 }
 
 // Finds the useful pairs, by two searches: the first finds all pairs that are reached from two start states, which are pairs of states of t; the
 // second is from the pairs of final states over `back`, the machine of t reversed, confined to what the first has found. What it leaves is the
 // second's.
-fn search_back(
-    t: Transducer,
-    m: &[u16],
-    back: &[u16],
-    order: &mut [u32],
-    rank: &mut [u32],
-    parent: &mut [u32],
-    via: &mut [u32],
-) -> u32
+#[inline(never)]
+fn search_back(t: Transducer, m: &Machine, back: &Machine, found: &mut Search<PAIRS>)
     requires valid { Valid t }
     requires image_of { ImageOf t false m.now }
     requires image_of_2 { ImageOf (reversed_of t) false back.now }
-    requires blank { Blank most_pairs (lists order.old rank.old parent.old via.old 0) }
-    ensures { Tree t t.finals (MovesBack t) (lists order.new rank.new parent.new via.new result) }
+    requires blank { Blank most_pairs found.old }
+    ensures { Tree t t.finals (MovesBack t) found.new }
 {
     let mut all = [0u32; PAIRS];
     search::mark_states(t.states, t.states, &mut all);
-    let mut reached = [0u32; PAIRS];
-    let starts = t.starts;
-    search::search(m, m, starts, starts, &all, order, &mut reached, parent, via);
-    let ends = t.finals;
-    search::search(back, back, ends, ends, &reached, order, rank, parent, via)
+    let mut reached = Search::<PAIRS>::new();
+    let forward = Confined {
+        product: Product::new(m, m),
+        starts: t.starts,
+        starts2: t.starts,
+        allowed: &all,
+    };
+    forward.search(&mut reached);
+    let allowed = reached.ranks();
+    let backward = Confined {
+        product: Product::new(back, back),
+        starts: t.finals,
+        starts2: t.finals,
+        allowed,
+    };
+    backward.search(found);
 }
 
 // The pairs that a search has found: those whose rank is not 0.
-fn found(rank: &[u32]) -> PairSet
-    requires { length rank.now ≡ most_pairs }
+fn set_of(rank: &[u32; PAIRS]) -> PairSet
     ensures { result ≡ pair_set_of rank.now }
 {
     let mut member = [false; PAIRS];
-    for v in 0..PAIRS {
-        member[v] = 0 < rank[v];
+    for (v, flag) in member.iter_mut().enumerate() {
+        *flag = 0 < rank[v];
     }
     PairSet { member }
 }

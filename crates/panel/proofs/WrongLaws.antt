@@ -6,7 +6,7 @@ use mathlib.Core.Logic.{◌↔◌}
 use Prim.Native.Nat.{ℕ}
 use native.Mathlib.Omega.{arith}
 use borrow.Author.Tests.{ne_eqb}
-use Rattle.transducer.specs.Refusals.{invalid}
+use Rattle.transducer.specs.Refusals.{invalid, number_of}
 use Rattle.transducer.specs.StateSet.{has, In, with_state, no_states}
 use Rattle.transducer.specs.Blank.{blank_transducer}
 use Rattle.transducer.specs.Useful.{UsefulState}
@@ -20,71 +20,53 @@ use Rattle.transducer.proofs.WithinLaws.{Within, useful_state_within}
 use Rattle.transducer.proofs.LineLaws.{set_valid}
 use Rattle.transducer.proofs.AcceptedLaws.{accepted_kept}
 use Rattle.product.specs.Numbers.{most_pairs}
-use Rattle.pairs.specs.UsefulPairs as pairs
-use Rattle.pairs.specs.UsefulPairs.{no_pairs_of, count_true, UsefulPairsOf}
+use Rattle.std.specs.Prelude.{Result, Ok, Err}
+use Rattle.transducer.specs.declared.refusals.Refusal.{Refusal}
+use Rattle.pairs.specs.UsefulPairs.{no_pairs_of, count_true, found_of, UsefulPairsOf}
 use Rattle.pairs.specs.declared.PairSet.{PairSet}
 use Rattle.pairs.specs.declared.UsefulPairs.{UsefulPairs}
 use Rattle.pairs.proofs.PairSetLaws.{count_none}
 use Rattle.tablewriter.specs.Writing.{in_case}
 use Rattle.edits.proofs.RowLaws.{one_refused}
-use Rattle.series.specs.Join as join
-use Rattle.series.specs.Join.{JoinedOf, refusal_of}
-use Rattle.series.specs.declared.Joined.{Joined}
+use Rattle.series.specs.Join.{joined_of, JoinedOf, refusal_of}
 use Rattle.translator.specs.Numbers as translation
 use Rattle.translator.specs.Words as word
 use Rattle.translator.specs.Translated.{Translated}
-use Rattle.translator.specs.declared.Translation.{Translation}
-use Rattle.translator.specs.declared.Translation.TheVariants as answer
+use Rattle.translator.proofs.TranslationLaws.{refused_length}
 use Rattle.wordtest.specs.Words as words
 use Rattle.witness.specs.Showing.{Buffers}
 use Rattle.functionality.specs.Decided as verdict
-use Rattle.functionality.specs.Decided.{Decided}
+use Rattle.functionality.specs.Decided.{useful_of, Decided}
 use Rattle.functionality.specs.declared.Verdict.{Verdict}
-use Rattle.functionality.specs.declared.Outcome.{Outcome}
-use Rattle.functionality.specs.declared.Outcome.TheVariants.{Functional as Single, NotFunctional as Split, BufferTooShort, Invalid}
+use Rattle.functionality.proofs.DecidedLaws.{refused_zero}
 use Rattle.panel.specs.Wrong.{RefusedAs8, WrongRefused}
 
 -- a join of two of which one is not accepted
-not_both : {first second : Transducer} {r : Joined} → (accepted_of first && accepted_of second) ≡ false → JoinedOf first second r
-    → (join.number_of r.outcome ≡ invalid) × (r.table ≡ blank_transducer)
+not_both : {first second : Transducer} {r : Result Transducer Refusal} → (accepted_of first && accepted_of second) ≡ false → JoinedOf first second r
+    → (number_of r ≡ invalid) × (joined_of r ≡ blank_transducer)
 unfolding refusal_of
 not_both {first} {second} e h =
     let number : refusal_of first second h.joined ≡ invalid = rw e refl in
     (h.number ∙ number, h.table ∙ rw (ne_eqb (refusal_of first second h.joined) 0 (λ z. omega (arith, number))) refl)
 
--- an outcome with the number 8 is no split
-no_split : (o : Outcome) → verdict.number_of o ≡ invalid → verdict.verdict_of o ≡ 0
-no_split Single e = refl
-no_split Split e = absurd (omega arith)
-no_split BufferTooShort e = refl
-no_split Invalid e = refl
-
--- and a translation with that number has no length
-no_length : (r : Translation) → translation.number_of r ≡ invalid → translation.length_of r ≡ 0
-no_length (answer.Written n) e = absurd (omega arith)
-no_length answer.BufferTooShort e = refl
-no_length answer.Invalid e = refl
-no_length answer.WordTooLong e = refl
-no_length answer.NoInputCode e = refl
-no_length answer.Unread e = refl
-
 module _ (t : Transducer) (a : accepted_of t ≡ false) where
-  decided_8 : {b b' : Buffers} {r : Verdict} → Decided t b b' r → (verdict.number_of r.outcome ≡ invalid) × (r.useful ≡ 0) × (b' ≡ b)
+  decided_8 : {b b' : Buffers} {r : Result Verdict Refusal} → Decided t b b' r → (number_of r ≡ invalid) × (useful_of r ≡ 0) × (b' ≡ b)
   unfolding verdict.refusal_of
   decided_8 {b} {r = r} h =
       let refusal : verdict.refusal_of t b ≡ invalid = rw a refl in
       let number = h.number ∙ refusal in
-      (number, h.refused (λ z. omega (arith, refusal)), (h.unchanged (no_split r.outcome number)).0)
+      (number, h.refused (λ z. omega (arith, refusal)), (h.unchanged (refused_zero r (λ z. omega (arith, number, z)))).0)
 
-  translated_8 : {input out out' : List ℕ} {r : Translation} → Translated t input out out' r
-      → (translation.number_of r ≡ invalid) × (translation.length_of r ≡ 0) × (out' ≡ out)
+  translated_8 : {input out out' : List ℕ} {r : Result ℕ Refusal} → Translated t input out out' r
+      → (number_of r ≡ invalid) × (translation.length_of r ≡ 0) × (out' ≡ out)
   unfolding word.refusal_of
   translated_8 {input} {r = r} h =
       let refusal : word.refusal_of t input ≡ invalid = rw a refl in
-      let number : translation.number_of r ≡ invalid = h.refused (λ z. omega (arith, refusal)) ∙ refusal in
-      (number, no_length r number, h.unchanged (λ z. omega (arith, number)))
+      let number : number_of r ≡ invalid = h.refused (λ z. omega (arith, refusal)) ∙ refusal in
+      (number, refused_length r (λ z. omega (arith, number, z)), h.unchanged (λ z. omega (arith, number)))
 
-  pairs_8 : {r : UsefulPairs} → UsefulPairsOf t r → (pairs.number_of r.outcome ≡ invalid) × (r.count ≡ 0) × (r.set ≡ no_pairs_of)
+  pairs_8 : {r : Result UsefulPairs Refusal} → UsefulPairsOf t r
+      → (number_of r ≡ invalid) × ((found_of r).count ≡ 0) × ((found_of r).set ≡ no_pairs_of)
   unfolding no_pairs_of
   pairs_8 h =
       let none = h.refused a in

@@ -10,6 +10,5 @@ use transducer::{StateSet, Transducer};
 pub fn look(t: Transducer) -> StateSet
     ensures { result ≡ t.useful }
 {
-    let kept = t.useful;
-    kept
+    t.useful
 }

@@ -8,19 +8,19 @@ use native.Mathlib.Decide.{dec_lt}
 use native.Mathlib.Omega.{arith}
 use borrow.Author.Tests.{ne_eqb, eqb-true, eqb-false, lt-ltb}
 use lib.Dec.{eqb, ltb}
-use lib.ListN.{length, get_or, length-replicate}
+use lib.ListN.{get_or}
 use Rattle.worklist.specs.Lists.{Worklist, Found, non_zeros, added, visited}
-use Rattle.worklist.specs.Search.{Blank, Rooted, Scanned, Expanded, Working, Exact}
-use Rattle.worklist.proofs.Findings.{Lengths, exact}
+use Rattle.worklist.specs.Search.{Rooted, Scanned, Expanded, Working, Exact}
+use Rattle.worklist.proofs.Findings.{exact}
 use Rattle.worklist.proofs.AllFound.{all_found, found_within, working_all}
-use Rattle.worklist.proofs.Stages.{rooted_past, rooted_skip, rooted_visit, scanned_skip, scanned_visit, scanned_join, expanded}
+use Rattle.worklist.proofs.Stages.{rooted_skip, rooted_visit, scanned_skip, scanned_visit, scanned_join, expanded}
 use Rattle.transducer.proofs.Bools.{and_both}
 use Rattle.transducer.proofs.Facts.{in_below}
 use Rattle.transducer.specs.StateSet.{has}
 use Rattle.transducer.specs.declared.StateSet.{StateSet}
 use Rattle.product.specs.Numbers.{most_pairs, first_of, second_of, label_of, PairIn}
 use Rattle.product.specs.Steps.{past_last, RowFrom, Steps, target_of, Past}
-use Rattle.product.specs.Confined.{Allowed, offered, pair_after_of, Begins, Goes, Ready}
+use Rattle.product.specs.Confined.{Allowed, offered, Begins, Goes, Ready}
 use Rattle.product.proofs.TargetLaws.{target_low}
 use Rattle.product.proofs.StepLaws.{past_row_after, past_last_row}
 
@@ -36,16 +36,6 @@ pair_in_lem s s' v = go (has s (first_of v)) (has s' (second_of v)) refl refl
     go true true e d = yes (record { first = e; second = d })
     go true false e d = no (λ p. true≢false (sym p.second ∙ d))
     go false b e d = no (λ p. true≢false (sym p.first ∙ e))
-
--- the pair after one is later, and no later than the end
-pub pair_later : (start : Bool) {v : ℕ} → v < most_pairs → (v < pair_after_of start v) × (pair_after_of start v ≤ most_pairs)
-pair_later true h = (omega arith, omega arith)
-pair_later false h = (omega arith, omega arith)
-
--- before a search too the lists have 1,024 elements each
-pub blank_lengths : {s : Worklist} → Blank most_pairs s → Lengths most_pairs s
-blank_lengths b =
-    record { order = b.order; rank = ap length b.rank ∙ length-replicate {A = ℕ} most_pairs 0; parent = b.parent; via = b.via }
 
 -- in the loops over the steps of the pair at the place `head`: those with a label from `low` on and below `label` lead to pairs found
 abbrev pub Scan : StateSet → StateSet → List ℕ → List ℕ → List ℕ → Worklist → Worklist → ℕ → ℕ → ℕ → Type 0
@@ -66,13 +56,6 @@ module _ {starts starts' : StateSet} {allowed : List ℕ} where
           → Rooted (Begins starts starts' allowed) most_pairs s' (node + 1)
       go true d e = rw e (rooted_skip r (λ z. omega (arith, z.inside, eqb-true (get_or allowed node 0) 0 d)))
       go false d e = rooted_visit 0 r h (record { start_pair = p; inside = omega (arith, eqb-false (get_or allowed node 0) 0 d) }) e
-
-  -- it goes on to the next pair, or passes the rest of a row whose state is no start state
-  pub rooted_after : {s : Worklist} (node : ℕ) {start : Bool} → Rooted (Begins starts starts' allowed) most_pairs s (node + 1)
-      → start ≡ has starts (first_of node) → Rooted (Begins starts starts' allowed) most_pairs s (pair_after_of start node)
-  rooted_after node {start = true} r e = r
-  rooted_after node {start = false} r e =
-      rooted_past r (λ v a b z. let same : first_of v ≡ first_of node = omega arith in true≢false (sym z.start_pair.first ∙ ap (has starts) same ∙ sym e))
 
   module _ {left right : List ℕ} where
     -- it passes labels that no step has

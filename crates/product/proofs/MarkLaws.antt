@@ -1,17 +1,23 @@
 -- Lists that allow the pairs that pass a test. Assumes nothing.
-use mathlib.Core.Path.{◌≡◌, ◌∙◌}
-use mathlib.Core.Bool.{Bool, cond}
+use mathlib.Core.Path.{◌≡◌, refl, ◌∙◌}
+use mathlib.Core.Bool.{Bool, true, false, cond}
 use mathlib.Core.List.{List}
 use Prim.Native.Nat.{ℕ, ◌+◌, ◌≤◌, ◌<◌}
 use native.Mathlib.Omega.{arith}
 use borrow.Author.Count.{below_more}
 use borrow.Author.Tests.{lt-ltb}
+use mir.Val.{bool_byte}
 use lib.ListN.{set, length-set}
 use lib.Seq.{get_or-set_same, get_or-set_other}
 use Rattle.transducer.specs.Limits.{most_states}
 use Rattle.product.specs.Numbers.{most_pairs, pair_of}
 use Rattle.product.specs.Confined.{Allowed, both_below, Marked}
 use Rattle.product.proofs.LabelLaws.{pair_first, pair_second}
+
+-- a test as a number
+pub bit_of : (b : Bool) → bool_byte b ≡ cond b 1 0
+bit_of true = refl
+bit_of false = refl
 
 -- the number of one pair more is written
 pub marked_more : {test : ℕ → Bool} {numbers : List ℕ} {i x : ℕ} → i < most_pairs → x ≡ cond (test i) 1 0 → Marked test numbers i

@@ -134,10 +134,6 @@ module _ {left right : List ℕ} (on_left : Machine left) (on_right : Machine ri
 -- ---- a caller's two loops
 
 module _ {left right : List ℕ} where
-  -- between equal labels there is none
-  pub past_none : {u low high : ℕ} → low ≡ high → Past left right u low high
-  past_none e = record { above = omega arith; none = λ k a b s. omega arith }
-
   -- the loop over the steps of a row begins, and goes on: no step of the row comes before the first from `low` on
   pub past_steps : {u r start : ℕ} (row low : ℕ) → StepFrom left right u row low r → start ≡ label_of row low → Past left right u start (label_of row r)
   past_steps {u} {r} {start} row low f e = record { above = omega (arith, f.above); none = λ k a b s. go k (k - label_of row 0) a b s (omega arith) }

@@ -1,13 +1,44 @@
--- A transition put into a machine: five stores at five places. Assumes nothing.
-use mathlib.Core.Path.{◌≡◌, ◌∙◌}
-use mathlib.Core.List.{List}
+-- A machine with no transition on record, and a transition put into a machine: five stores at five places. Assumes nothing.
+use mathlib.Core.Path.{◌≡◌, ap, ◌∙◌}
+use mathlib.Core.List.{List, ◌++◌}
 use mathlib.Core.Logic.{◌≢◌}
 use Prim.Native.Nat.{ℕ, ◌+◌, ◌*◌, ◌<◌}
 use native.Mathlib.Omega.{arith}
-use lib.ListN.{length, get_or, set, length-set}
+use borrow.Rule.Slice.PartMut.{put_mid, post_of}
+use lib.ListN.{length, get_or, set, take, replicate, length-set, length-replicate}
 use lib.Seq.{get_or-set_same, get_or-set_other}
+use Rattle.std.proofs.Common.{length-append, length-drop}
+use Rattle.std.proofs.lemmas.List.{get_or_append_left, get_or-append_right, get_or-take, get_or-replicate, length-take-le}
 use Rattle.transducer.specs.Limits.{most_states, most_transitions}
-use Rattle.product.specs.Machine.{most_places, count_of, head_of, from_of, to_of, key_of, next_of, Put}
+use Rattle.product.specs.Machine.{most_places, count_of, head_of, from_of, to_of, key_of, next_of, Cleared, Put}
+use Rattle.product.specs.Numbers.{no_transition}
+
+-- the count is stored, and the states' places are filled
+pub cleared : (m heads : List ℕ) (n : ℕ) → length m ≡ most_places → heads ≡ replicate most_states no_transition
+    → Cleared (put_mid 2 most_states (set m 0 n) heads) n
+unfolding count_of head_of
+cleared m heads n long e =
+    record {
+      long = simp (length-append, length-drop, length-set) (omega (arith, front, full, long));
+      count =
+          get_or_append_left (take 2 l) _ 0 0 (omega (arith, front)) ∙ get_or-take 2 l 0 0 (omega arith)
+          ∙ get_or-set_same m 0 n 0 (omega (arith, long));
+      heads = λ q h.
+          get_or-append_right (take 2 l) (heads ++ post_of 2 most_states l) 2 (2 + q) 0 front (omega arith)
+          ∙ ap (λ k. get_or (heads ++ post_of 2 most_states l) k 0) (omega arith)
+          ∙ get_or_append_left heads (post_of 2 most_states l) 0 q (omega (arith, full))
+          ∙ ap (λ (xs : List ℕ). get_or xs q 0) e
+          ∙ get_or-replicate most_states q no_transition 0 h;
+    }
+  where
+    l : List ℕ
+    l = set m 0 n
+
+    front : length (take 2 l) ≡ 2
+    front = length-take-le 2 l (omega (arith, length-set m 0 n, long))
+
+    full : length heads ≡ most_states
+    full = ap length e ∙ length-replicate most_states no_transition
 
 module _ (m : List ℕ) (a b c d e v w x y z : ℕ) where
   abbrev five : List ℕ

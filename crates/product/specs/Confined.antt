@@ -1,11 +1,11 @@
 -- The worklist search over pairs of states, one of each of two machines, that is confined to a list of numbers, one for each pair: a pair is
 -- allowed where its number is not 0. The search begins at the pairs of start states and goes by steps, to allowed pairs only.
-use Rattle.std.specs.Prelude.{Bool, cond, ◌&&◌, ◌≡◌, List, ℕ, ◌+◌, ◌<◌, length, get_or, eqb, ltb}
+use Rattle.std.specs.Prelude.{Bool, cond, ◌&&◌, ◌≡◌, List, ℕ, ◌<◌, length, get_or, eqb, ltb}
 use Rattle.worklist.specs.Lists.{Worklist, Found, visited}
 use Rattle.worklist.specs.Search.{Grown}
 use Rattle.transducer.specs.declared.StateSet.{StateSet}
 use Rattle.product.specs.Machine.{Machine}
-use Rattle.product.specs.Numbers.{most_pairs, pair_of, first_of, second_of, PairIn}
+use Rattle.product.specs.Numbers.{most_pairs, first_of, second_of, PairIn}
 use Rattle.product.specs.Steps.{Steps, target_of}
 
 -- the pair v is allowed
@@ -15,10 +15,6 @@ Allowed allowed v = 0 < get_or allowed v 0
 -- the state after `node` is visited if it is allowed
 abbrev pub offered : List ℕ → Worklist → ℕ → ℕ → ℕ → Worklist
 offered allowed s node from label = cond (eqb (get_or allowed node 0) 0) s (visited s node from label)
-
--- where the loop over the pairs goes on from v: to the next pair, or to the next row where the first state is no start state
-abbrev pub pair_after_of : Bool → ℕ → ℕ
-pair_after_of start v = cond start (v + 1) (pair_of (first_of v + 1) 0)
 
 module _ (starts starts' : StateSet) (allowed : List ℕ) where
   -- the search begins at v: an allowed pair of start states

@@ -2,6 +2,7 @@
 pub mod Columns
 pub mod RoundTrip
 pub mod RangeLaws
+pub mod FaultLaws
 pub mod FilledLaws
 pub mod RecordTrip
 pub mod Behind

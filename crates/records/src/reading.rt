@@ -1,12 +1,14 @@
-// The reading of a record that is described by ranges, with plain parameters (specs/Reading.antt): its letter, a field for each range, and its end.
-// A refused check does not end the reading: what follows is read too, and the first fault counts.
-ghost use Rattle.std.specs.Prelude.{◌≡◌, ◌+◌, ◌≤◌, ◌<◌, ◌^◌, take};
+// The reading of a record that is described by ranges (specs/Reading.antt): its letter, a field for each range, and its end.
+// A refused check does not end the reading (DECISIONS 01.10): what follows is read too, and the first fault counts. So what was read has its refusal
+// beside it, and is no `Result`.
+ghost use Rattle.std.specs.Prelude.{◌≡◌, ◌+◌, ◌≤◌, ◌<◌, ◌^◌, length};
 ghost use Rattle.records.specs.Letters.{most_fields, record_size};
-ghost use Rattle.records.specs.Reading.{first, in_range, number_at, record_at};
+ghost use Rattle.records.specs.Reading.{range, in_range, number_at, record_at};
 
-use crate::field::Field;
-use crate::{field, reader};
-use transducer::{limits, refusals};
+use crate::field::field_at;
+use crate::reader::{END, RecordReader};
+use transducer::limits;
+use transducer::refusals::Refusal;
 
 // The most fields of a record: four and the output codes of a transition.
 pub const MOST_FIELDS: usize = 4 + limits::OUTPUTS;
@@ -19,48 +21,50 @@ pub struct Range {
     pub least: u16,
 }
 
-// A number that was read, with the refusal's number, 0 where there is none. A number that was refused is given the least value of its range.
+// A number that was read, with its refusal, if it has one. A number that was refused is given the least value of its range.
 #[derive(Clone, Copy)]
 pub struct Number {
-    pub fault: u8,
+    pub fault: Option<Refusal>,
     pub value: u16,
 }
 
-// A record that was read: the first refusal's number, the place past the record, and the numbers of its fields.
+// A record that was read: its first refusal, if it has one, the place past the record, and the numbers of its fields.
 #[derive(Clone, Copy)]
 pub struct Record {
-    pub fault: u8,
+    pub fault: Option<Refusal>,
     pub next: usize,
     pub values: [u16; MOST_FIELDS],
 }
 
-// Reads the record at `start`: the letter, as many fields as are asked for, the first ranges for them, and the record's end.
-pub fn read_record(
-    text: &[u8],
-    start: usize,
-    letter: u8,
-    fields: usize,
-    ranges: [Range; MOST_FIELDS],
-) -> Record
-    requires { (fields ≤ most_fields) × (start + record_size fields < 2 ^ 64) }
-    ensures { result ≡ record_at text.now start letter (take fields ranges) }
-{
-    let mut fault = field::byte_fault(text, start, letter);
-    let mut values = [0; MOST_FIELDS];
-    let mut at = start + 1;
-    let mut i: usize = 0;
-    while i < fields {
-        let range = ranges[i];
-        let number = number_at(text, at, range);
-        fault = first_fault(fault, number.fault);
-        values[i] = number.value;
-        at += field::COLUMNS;
-        i += 1;
+impl Range {
+    // From `low` to `high`, where nothing must rise.
+    pub fn new(low: u16, high: u16) -> Range
+        ensures { result ≡ range low high }
+    {
+        Range {
+            low,
+            high,
+            least: 0,
+        }
     }
-    let end = field::byte_fault(text, at, reader::END);
+}
+
+// Reads the record at `start`: the letter, a field for each range, and the record's end. The record reader goes over it.
+pub fn read_record(text: &[u8], start: usize, letter: u8, ranges: &[Range]) -> Record
+    requires { (length ranges.now ≤ most_fields) × (start + record_size (length ranges.now) < 2 ^ 64) }
+    ensures { result ≡ record_at text.now start letter ranges.now }
+{
+    let mut reader = RecordReader::new(text, start);
+    let mut fault = reader.byte(letter);
+    let mut values = [0; MOST_FIELDS];
+    for (i, range) in ranges.iter().enumerate() {
+        let number = in_range(reader.field(), *range);
+        fault = fault.or(number.fault);
+        values[i] = number.value;
+    }
     Record {
-        fault: first_fault(fault, end),
-        next: at + 1,
+        fault: fault.or(reader.byte(END)),
+        next: reader.at,
         values,
     }
 }
@@ -70,48 +74,24 @@ pub fn read_record(
 pub fn number_at(text: &[u8], at: usize, range: Range) -> Number
     ensures { result ≡ number_at text.now at range }
 {
-    let f = field::field_at(text, at);
-    in_range(f, range)
+    in_range(field_at(text, at), range)
 }
 
 // The number of a field, which must be in the range.
-pub fn in_range(f: Field, range: Range) -> Number
-    ensures { result ≡ in_range f range }
+pub fn in_range(field: Result<u16, Refusal>, range: Range) -> Number
+    ensures { result ≡ in_range field range }
 {
-    let low = range.low;
-    match f {
-        Field::Ended => Number {
-            fault: refusals::ENDED,
-            value: low,
+    let refused = |refusal| Number {
+        fault: Some(refusal),
+        value: range.low,
+    };
+    match field {
+        Err(refusal) => refused(refusal),
+        Ok(v) if v < range.low || range.high < v => refused(Refusal::OutOfRange),
+        Ok(v) if v < range.least => refused(Refusal::NotRising),
+        Ok(v) => Number {
+            fault: None,
+            value: v,
         },
-        Field::NotANumber => Number {
-            fault: refusals::NOT_A_NUMBER,
-            value: low,
-        },
-        Field::Value(v) => {
-            if (low <= v) & (v <= range.high) {
-                if range.least <= v {
-                    Number { fault: 0, value: v }
-                } else {
-                    Number {
-                        fault: refusals::NOT_RISING,
-                        value: low,
-                    }
-                }
-            } else {
-                Number {
-                    fault: refusals::OUT_OF_RANGE,
-                    value: low,
-                }
-            }
-        }
     }
-}
-
-// Of two checks in a row the first fault, or 0.
-#[tactic(auto, unfolding(crate::specs::Reading::first))]
-pub fn first_fault(a: u8, b: u8) -> u8
-    ensures { result ≡ first a b }
-{
-    if a == 0 { b } else { a }
 }

@@ -12,8 +12,8 @@ use Rattle.transducer.specs.Refusals.{word_too_long}
 use Rattle.translator.specs.Words as words
 use Rattle.translator.proofs.RefusalLaws.{refusal_long}
 use Rattle.tablereader.specs.Outcome as reader
+use Rattle.tablereader.specs.Outcome.{table_of_reading}
 use Rattle.tablereader.specs.Reader.{read_of}
-use Rattle.tablereader.specs.declared.Reading.{Reading}
 use Rattle.tablereader.proofs.Validity.{read_accepted}
 use Rattle.tablereader.proofs.LongestLaws.{longest_file}
 use Rattle.engine.specs.Engine.{number_of, record_of, table_of}
@@ -25,13 +25,13 @@ seen : (f : List ℕ) → read_of (take read_bytes f) ≡ read_of f
 seen f = longest_file.seen f read_bytes (omega arith)
 
 table_seen : (f : List ℕ) → table_of (take read_bytes f) ≡ table_of f
-table_seen f = ap (λ (r : Reading). r.table) (seen f)
+table_seen f = ap table_of_reading (seen f)
 
 number_seen : (f : List ℕ) → number_of (take read_bytes f) ≡ number_of f
-number_seen f = ap (λ (r : Reading). reader.number_of r.outcome) (seen f)
+number_seen f = ap reader.number_of (seen f)
 
 record_seen : (f : List ℕ) → record_of (take read_bytes f) ≡ record_of f
-record_seen f = ap (λ (r : Reading). reader.record_of r.outcome) (seen f)
+record_seen f = ap reader.record_of (seen f)
 
 verdict_seen : (f listing : List ℕ) → VerdictPrinted (take read_bytes f) listing → VerdictPrinted f listing
 verdict_seen f listing (VerdictPrinted.refused n e) = VerdictPrinted.refused (rw (number_seen f) at n) (rw (number_seen f, record_seen f) at e)

@@ -4,9 +4,8 @@ use Rattle.buffers.specs.Put.{Puts}
 use Rattle.records.specs.Letters.{most_bytes}
 use Rattle.wordsearch.specs.Limits.{most_word}
 use Rattle.witness.specs.Showing.{Buffers, x_in, y_in}
-use Rattle.engine.specs.Engine.{Judged, FileTranslated}
-use Rattle.engine.specs.declared.Judgement.{Judgement}
-use Rattle.engine.specs.declared.FileTranslation.{FileTranslation}
+use Rattle.tablereader.specs.Outcome.{number_of, record_of}
+use Rattle.engine.specs.Engine.{Judgement, FileTranslation, split_of, useful_of, counts_of, length_of, Judged, FileTranslated}
 use Rattle.listing.specs.Listing.{verdict_listing, refusal_listing, translation_listing, most_steps, most_shown, most_translated}
 
 -- how many bytes of a table file are read: one more than the longest has
@@ -32,10 +31,10 @@ lent =
 -- far the outputs agree
 unfoldable pub judgement_listing : Judgement → Buffers → List ℕ
 judgement_listing r b =
-    cond (eqb r.number 0)
-    (verdict_listing r.split r.useful (take r.counts.word b.word) (take r.counts.path_a b.path_a)
-    (take r.counts.path_b b.path_b) (x_in b r.counts) (y_in b r.counts) r.counts.shared)
-    (refusal_listing r.number r.«record»)
+    cond (eqb (number_of r) 0)
+    (verdict_listing (split_of r) (useful_of r) (take (counts_of r).word b.word) (take (counts_of r).path_a b.path_a)
+    (take (counts_of r).path_b b.path_b) (x_in b (counts_of r)) (y_in b (counts_of r)) (counts_of r).shared)
+    (refusal_listing (number_of r) (record_of r))
 
 -- from the bytes f of a file the buffer that held out₀ holds out: the listing of a judgement of f stands at its front, its n bytes fit, and the
 -- places beyond hold what they held
@@ -48,7 +47,7 @@ pub record VerdictReport (f out₀ out : List ℕ) (n : ℕ) : Type 0 where
 
 -- what is printed of a translation that leaves out in its buffer: the refusal where it has a number, else the codes that are written
 unfoldable pub answer_listing : FileTranslation → List ℕ → List ℕ
-answer_listing q output = cond (eqb q.number 0) (translation_listing (take q.length output)) (refusal_listing q.number q.«record»)
+answer_listing q output = cond (eqb (number_of q) 0) (translation_listing (take (length_of q) output)) (refusal_listing (number_of q) (record_of q))
 
 -- the buffer that is lent for a translation, all zeros
 unfoldable pub lent_output : List ℕ

@@ -7,6 +7,7 @@ use mathlib.Core.List.{◌++◌, map}
 use Prim.Native.Nat.{ℕ, suc, ◌-◌}
 use borrow.Author.Tests.{le-leb}
 use lib.Dec.{eqb, leb}
+use Rattle.std.specs.Prelude.{Result}
 use lib.ListN.{length, replicate}
 use Rattle.transducer.specs.Limits.{most_states, most_transitions}
 use Rattle.transducer.specs.Refusals.{more_than_one_code, many_pairs, many_transitions}
@@ -18,6 +19,7 @@ use Rattle.transducer.specs.Walks.{Edge}
 use Rattle.transducer.specs.Alike.{Alike}
 use Rattle.transducer.specs.declared.StateSet.{StateSet}
 use Rattle.transducer.specs.declared.Transducer.{Transducer}
+use Rattle.transducer.specs.declared.refusals.Refusal.{Refusal}
 use Rattle.transducer.proofs.Bools.{same_flag, and_both, all_of}
 use Rattle.transducer.proofs.LineLaws.{at_among, among_numbered}
 use Rattle.transducer.proofs.WithinLaws.{Within}
@@ -29,7 +31,6 @@ use Rattle.joints.proofs.JointLaws.{Joint, together, first_alone, second_alone, 
 use Rattle.series.specs.Result.{state_of, pairs, both_in_of, taken, step_line_of, lines, pair_transducer, result_of}
 use Rattle.series.specs.Join.{size_refusal, refusal_of, joinable, JoinedOf}
 use Rattle.series.specs.Composition.{AlikeJoins, SameUnlessMany, AlikeNumbers}
-use Rattle.series.specs.declared.Joined.{Joined}
 use Rattle.series.proofs.ResultLaws.{line_step, step_line, pair_lines}
 use Rattle.series.proofs.SeriesLaws.{taken_result, same_joined}
 
@@ -147,7 +148,7 @@ module _ (joined : ℕ → Bool) where
 
 -- the pairs are the same
 module _ {first first' second second' : Transducer} (a : Alike first first') (a' : Alike second second') where
-  same_pairs : {r r' : Joined} (h : JoinedOf first second r) (k : JoinedOf first' second' r') → joinable first second ≡ true
+  same_pairs : {r r' : Result Transducer Refusal} (h : JoinedOf first second r) (k : JoinedOf first' second' r') → joinable first second ≡ true
       → joinable first' second' ≡ true → k.joined ≡ h.joined
   same_pairs h k j j' =
       same_joined k.joined h.joined (k.exactly j') (h.exactly j)

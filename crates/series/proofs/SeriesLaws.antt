@@ -6,8 +6,9 @@ use Prim.Native.Nat.{ℕ, ◌≤◌}
 use native.Mathlib.Omega.{arith}
 use borrow.Author.Tests.{eqb-true, eqb-false, eq-eqb}
 use lib.Dec.{eqb}
+use Rattle.std.specs.Prelude.{Result}
 use lib.ListN.{length}
-use Rattle.transducer.specs.Refusals.{invalid, more_than_one_code, many_pairs}
+use Rattle.transducer.specs.Refusals.{number_of}
 use Rattle.transducer.specs.Transition.{InputWord, OutputWord}
 use Rattle.transducer.specs.Blank.{blank_transducer}
 use Rattle.transducer.specs.Valid.{Shaped}
@@ -15,16 +16,15 @@ use Rattle.transducer.specs.Accepted.{accepted_of}
 use Rattle.transducer.specs.Lines.{transducer_of}
 use Rattle.transducer.specs.Paths.{Relates, Functional}
 use Rattle.transducer.specs.declared.Transducer.{Transducer}
+use Rattle.transducer.specs.declared.refusals.Refusal.{Refusal}
 use Rattle.transducer.proofs.Bools.{same_flag}
+use Rattle.transducer.proofs.RefusalLaws.{same_answer}
 use Rattle.transducer.proofs.BlankLaws.{blank_relates, blank_accepted, blank_shaped}
 use Rattle.product.specs.Numbers.{first_of, second_of}
 use Rattle.joints.specs.Joint.{JoinedPair}
 use Rattle.series.specs.Result.{pairs, pair_transducer, result_of}
-use Rattle.series.specs.Join.{refusal_of, joinable, number_of, JoinedOf}
+use Rattle.series.specs.Join.{refusal_of, joinable, joined_of, JoinedOf}
 use Rattle.series.specs.Composition.{Composes, NoneInVain, InSeries}
-use Rattle.series.specs.declared.Outcome.{Outcome}
-use Rattle.series.specs.declared.Outcome.TheVariants.{Made, Invalid, MoreThanOneCode, ManyPairs, ManyTransitions}
-use Rattle.series.specs.declared.Joined.{Joined}
 use Rattle.series.proofs.ResultLaws.{set_below}
 use Rattle.series.proofs.RuleLaws.{pairs_accepted, pairs_shaped}
 use Rattle.series.proofs.RefusalLaws.{Taken, not_refused, refused_anyway}
@@ -69,15 +69,15 @@ module _ (first second : Transducer) (joined : ℕ → Bool) where
 
 -- ---- every answer
 
-module _ {first second : Transducer} {r : Joined} (h : JoinedOf first second r) where
+module _ {first second : Transducer} {r : Result Transducer Refusal} (h : JoinedOf first second r) where
   -- where nothing is refused it is the result
-  pub taken_result : number_of r.outcome ≡ 0 → Taken first second h.joined × (r.table ≡ result_of first second h.joined)
+  pub taken_result : number_of r ≡ 0 → Taken first second h.joined × (joined_of r ≡ result_of first second h.joined)
   taken_result e =
       let none : refusal_of first second h.joined ≡ 0 = sym h.number ∙ e in
       (not_refused first second h.joined none, h.table ∙ rw (eq-eqb (refusal_of first second h.joined) 0 none))
 
   -- else it is blank
-  answered : (P : Transducer → Type 0) → P blank_transducer → (Taken first second h.joined → P (result_of first second h.joined)) → P r.table
+  answered : (P : Transducer → Type 0) → P blank_transducer → (Taken first second h.joined → P (result_of first second h.joined)) → P (joined_of r)
   answered P refused made = rw h.table (go (eqb (refusal_of first second h.joined) 0) refl)
     where
       go : (b : Bool) → eqb (refusal_of first second h.joined) 0 ≡ b → P (cond b (result_of first second h.joined) blank_transducer)
@@ -85,7 +85,7 @@ module _ {first second : Transducer} {r : Joined} (h : JoinedOf first second r) 
       go false e = refused
 
   -- it has no state in vain
-  joined_useful : NoneInVain r.table
+  joined_useful : NoneInVain (joined_of r)
   unfolding pair_transducer transducer_of
   joined_useful =
       answered NoneInVain (inl refl)
@@ -112,24 +112,10 @@ module _ {first second : Transducer} {r : Joined} (h : JoinedOf first second r) 
       composed_functional f g c d = g _ _ _ c.other (rw (f _ _ _ d.one c.one) at d.other)
 
   -- its arrays have their lengths
-  pub joined_shaped : Shaped second → Shaped r.table
+  pub joined_shaped : Shaped second → Shaped (joined_of r)
   joined_shaped s = answered Shaped blank_shaped (λ t. result_shaped first second h.joined t s)
 
 -- ---- the contract determines the answer
-
--- an outcome is told by its number
-outcome_for : ℕ → Outcome
-outcome_for n =
-    cond (eqb n 0) Made
-    (cond (eqb n invalid) Invalid (cond (eqb n more_than_one_code) MoreThanOneCode (cond (eqb n many_pairs) ManyPairs ManyTransitions)))
-
-outcome_told : (o : Outcome) → outcome_for (number_of o) ≡ o
-unfolding outcome_for
-outcome_told Made = refl
-outcome_told Invalid = refl
-outcome_told MoreThanOneCode = refl
-outcome_told ManyPairs = refl
-outcome_told ManyTransitions = refl
 
 -- the sets of joined pairs are the same where the joined pairs are
 pub same_joined : (j k : ℕ → Bool) {P Q : ℕ → Type 0} → ((v : ℕ) → (j v ≡ true) ↔ P v) → ((v : ℕ) → (k v ≡ true) ↔ Q v)
@@ -138,13 +124,11 @@ same_joined j k p q there back =
     λ i v. same_flag (j v) (k v) (λ m. (q v).1 (there v ((p v).0 m))) (λ m. (p v).1 (back v ((q v).0 m))) i
 
 -- any two answers that meet the contract for the same two transducers are the same
-pub joined_determined : {first second : Transducer} {r r' : Joined} → JoinedOf first second r → JoinedOf first second r' → r ≡ r'
+pub joined_determined : {first second : Transducer} {r r' : Result Transducer Refusal} → JoinedOf first second r → JoinedOf first second r' → r ≡ r'
 joined_determined {first} {second} {r} {r'} h k = go (joinable first second) refl
   where
-    make : refusal_of first second h.joined ≡ refusal_of first second k.joined → r.table ≡ r'.table → r ≡ r'
-    make e t =
-        let outcome = sym (outcome_told r.outcome) ∙ ap outcome_for (h.number ∙ e ∙ sym k.number) ∙ outcome_told r'.outcome in
-        λ i. record { outcome = outcome i; table = t i }
+    make : refusal_of first second h.joined ≡ refusal_of first second k.joined → joined_of r ≡ joined_of r' → r ≡ r'
+    make e t = same_answer r r' (h.number ∙ e ∙ sym k.number) (λ a b p q. rw (p, q) at t)
 
     go : (b : Bool) → joinable first second ≡ b → r ≡ r'
     go true e =

@@ -1,8 +1,8 @@
 -- Laws of the table as it is made: an array that is clear at first, the lines of the listed steps, and the whole. Assumes nothing.
-use mathlib.Core.Path.{◌≡◌, refl, sym, ap, ◌∙◌}
+use mathlib.Core.Path.{◌≡◌, refl, sym, ap, subst, ◌∙◌}
 use mathlib.Core.Bool.{Bool, true, false, cond, ◌&&◌}
 use mathlib.Core.List.Memᴰ
-use mathlib.Core.List.{List, [], ◌++◌, Memᴰ}
+use mathlib.Core.List.{List, [], ◌++◌, Memᴰ, map}
 use mathlib.Core.Logic.{⊎_elim}
 use Prim.Native.Nat.{ℕ, ◌-◌, ◌/◌, ◌%◌, ◌≤◌, ◌<◌}
 use native.Mathlib.Omega.{arith}
@@ -22,7 +22,7 @@ use Rattle.product.specs.Steps.{past_last, target_of}
 use Rattle.product.proofs.TargetLaws.{target_low}
 use Rattle.joints.proofs.StepLaws.{Coupled}
 use Rattle.series.specs.Result.{state_of, pairs, both_in_of, lines, pair_transducer}
-use Rattle.series.specs.Parts.{step_number, step_test, row_of, rows_of, step_at, steps_of, Listed, Numbered, takes, line_of, line_by, Placed, Small, Written}
+use Rattle.series.specs.Parts.{step_number, pair_in, label_in, step_test, row_of, rows_of, step_at, steps_of, Numbered, takes, line_of, line_by, Placed, Small, Written}
 use Rattle.series.proofs.GatherLaws.{gather_at, picked_at, get_d_mapped}
 use Rattle.series.proofs.StateLaws.{state_order}
 use Rattle.series.proofs.TestLaws.{test_exactly}
@@ -38,18 +38,13 @@ pub step_target : (left right : List ℕ) (v k : ℕ) {to l m : ℕ} → to ≡ 
     → to ≡ target_of left right v k
 step_target left right v k e p q = e ∙ ap (target_of left right v) (omega arith)
 
--- a line stays the same where other, equal numbers stand for the pair that its step enters and for what its sides take
-pub line_again : (states : List ℕ) (xs ys : List Transition) (v : ℕ) {r : Transition} {to to' l l' m m' : ℕ}
-    → r ≡ line_of (get_or states v 0) (get_or states to 0) (get_or xs l outside) (get_or ys m outside) → to ≡ to' → l ≡ l' → m ≡ m'
-    → r ≡ line_of (get_or states v 0) (get_or states to' 0) (get_or xs l' outside) (get_or ys m' outside)
-line_again states xs ys v e p q o = rw (← p, ← q, ← o) e
-
--- and where what the sides take stands for it
-pub line_takes : (first second : Transducer) (states : List ℕ) (xs ys : List Transition) (v to l m : ℕ) → l ≤ no_transition → m ≤ no_transition
-    → ((l : ℕ) → l ≤ no_transition → get_or xs l outside ≡ takes first l) → ((m : ℕ) → m ≤ no_transition → get_or ys m outside ≡ takes second m)
-    → line_of (get_or states v 0) (get_or states to 0) (get_or xs l outside) (get_or ys m outside)
-    ≡ line_of (get_or states v 0) (get_or states to 0) (takes first l) (takes second m)
-line_takes first second states xs ys v to l m h k f g = rw (f l h, g m k)
+-- the line of a step, by the pair that it enters and by what its sides take
+pub line_made : (first second : Transducer) (left right states : List ℕ) (k : ℕ) {r x y : Transition} {to l m : ℕ}
+    → r ≡ line_of (get_or states (pair_in k) 0) (get_or states to 0) x y → to ≡ target_of left right (pair_in k) (label_in k)
+    → x ≡ takes first l → y ≡ takes second m → l ≡ label_in k / sides → m ≡ label_in k % sides
+    → r ≡ line_by first second left right (λ v. get_or states v 0) k
+unfolding line_by
+line_made first second left right states k e t a b p q = e ∙ rw (t, a, b, p, q) refl
 
 -- the states are small where there are few
 pub numbered_small : {joined : ℕ → Bool} {states : List ℕ} {n : ℕ} → Numbered joined states n → n ≤ most_states → Small states
@@ -86,17 +81,17 @@ module _ {first second : Transducer} {left right : List ℕ} (c : Coupled first 
           (Memᴰ.append_cases (row_of left right joined v no_transition) m)
       from v h false m = absurd (Memᴰ.not-nil m)
 
-  module _ {list : List ℕ} {k : ℕ} (l : Listed list k (steps_of left right joined)) (most : k ≤ most_transitions) where
-    -- k is the number of the lines
-    pub count_is : k ≡ length (lines first second joined)
-    count_is = l.exact most ∙ many_steps c joined
+  module _ {list : List ℕ} (l : list ≡ steps_of left right joined) (most : length list ≤ most_transitions) where
+    -- the list is as long as the lines
+    pub count_is : length list ≡ length (lines first second joined)
+    count_is = ap length l ∙ many_steps c joined
 
-    pub placed_at : (i : ℕ) → i < k → Placed left right (get_or list i 0)
-    placed_at i h = rw (l.kept i h (omega arith)) (steps_placed _ (place_among (steps_of left right joined) 0 i (omega (arith, l.exact most))))
+    pub placed_at : (i : ℕ) → i < length list → Placed left right (get_or list i 0)
+    placed_at i h = steps_placed _ (subst (Memᴰ (get_or list i 0)) l (place_among list 0 i h))
 
     -- the array has the lines, and clear transitions behind them
     pub array_is : {states : List ℕ} {n : ℕ} {array : List Transition} → Numbered joined states n
-        → Written first second left right states list k array
+        → Written first second left right states list (length list) array
         → array ≡ lines first second joined ++ replicate (most_transitions - length (lines first second joined)) clear_transition
     unfolding line_by
     array_is {states} {array = array} h w =
@@ -104,14 +99,13 @@ module _ {first second : Transducer} {left right : List ℕ} (c : Coupled first 
       where
         at_place : (j : ℕ) → j < length (lines first second joined) → get_or array j outside ≡ get_or (lines first second joined) j outside
         at_place j b =
-            let b' : j < k = omega (arith, count_is) in
+            let b' : j < length list = omega (arith, count_is) in
             let p = placed_at j b' in
             let low = target_low c.image.machine c.image'.machine p.pair p.step in
             w.line j b'
             ∙ rw (h.state _ p.pair, h.state _ low) refl
-            ∙ ap (line_by first second left right (state_of joined)) (l.kept j b' (omega arith))
-            ∙ sym (get_d_mapped (line_by first second left right (state_of joined)) (steps_of left right joined) outside j (omega (arith, l.exact most)))
-            ∙ ap (λ x. get_or x j outside) (steps_lines c joined)
+            ∙ sym (get_d_mapped (line_by first second left right (state_of joined)) list outside j b')
+            ∙ ap (λ x. get_or x j outside) (ap (map (line_by first second left right (state_of joined))) l ∙ steps_lines c joined)
 
 -- ---- the whole
 

@@ -1,14 +1,13 @@
 -- What is known of a read: how much stands in the buffer, and that a failed read is not taken for an end. Which bytes came, no contract can say.
-use Rattle.std.specs.Prelude.{◌≡◌, List, ◌⊎◌, ℕ, zero, suc, ◌+◌, ◌≤◌, min, length, take, Result, Ok, Err}
+use Rattle.std.specs.Prelude.{◌≡◌, List, ◌⊎◌, ℕ, zero, suc, ◌+◌, ◌≤◌, min, length, take, Option, Some, None, Result, Ok, Err}
 use Rattle.io.specs.Counts.{IsPrefixLen}
 use Rattle.std.specs.declared.io.Error.{Error}
-use Rattle.streams.specs.declared.Input.{Input}
 use Rattle.streams.specs.declared.Step.{Step}
 
 -- what an input tells of the buffer: as many bytes as are counted stand at its front; nothing where a read failed
-abbrev pub Told : Input → List ℕ → Type 0
-Told (Input.Got n) buf = IsPrefixLen n buf
-Told Input.Failed buf = Unit {0}
+abbrev pub Told : Option ℕ → List ℕ → Type 0
+Told (Some n) buf = IsPrefixLen n buf
+Told None buf = Unit {0}
 
 -- what a read that was handed `size` places and answered so came to: bytes, no more than the places; the end of the input where it answered 0; an
 -- interruption or a failure where it answered an error, never an end

@@ -2,8 +2,7 @@
 // dropped, and either is reported on standard error. The contracts cite specs/Streams.antt.
 #![tactic(auto)]
 
-ghost use Rattle.std.specs.Prelude.{◌≡◌, ◌≤◌, length};
-ghost use Rattle.streams.specs.declared.Input.{Input};
+ghost use Rattle.std.specs.Prelude.{◌≡◌, ◌≤◌, length, None};
 ghost use Rattle.streams.specs.Streams.{Told, ReadOn, StepOf};
 
 use std::fmt::InlineText;
@@ -13,14 +12,7 @@ use std::io::{ErrorKind, Print, Read};
 // The most bytes that are shown of what the system says of an error.
 const MOST_WORDS: usize = 256;
 
-// What came of reading: how many bytes stand at the front of the buffer, or that a read failed.
-#[derive(Clone, Copy)]
-pub enum Input {
-    Got(usize),
-    Failed,
-}
-
-// What came of one read.
+// What came of one read. An enum of its own: an interruption is neither bytes nor the end nor a failure.
 #[derive(Clone, Copy)]
 enum Step {
     More(usize),
@@ -29,23 +21,27 @@ enum Step {
     Failed(io::Error),
 }
 
-// Reads until `buf` is full or the input ends. A read that brings only a part, or that a signal interrupts, is followed by another; one that fails is
-// reported to `errors` under the name `what`.
-pub fn read<R: Read, P: Print>(source: &mut R, errors: &P, what: &[u8], buf: &mut [u8]) -> Input
+// Reads until `buf` is full or the input ends, and returns how many bytes stand at its front. A read that brings only a part, or that a signal interrupts, is
+// followed by another; one that fails is reported to `errors` under the name `what`, and nothing is returned.
+// `errors` and `what` stay two parameters: each call of a program has another name, so a struct of both would be made for one call.
+pub fn read<R: Read, P: Print>(
+    source: &mut R,
+    errors: &P,
+    what: &[u8],
+    buf: &mut [u8],
+) -> Option<usize>
     ensures { Told result buf.new }
 {
     let mut done = 0;
     // The loop is proved to end by these turns; no run uses them up.
-    let mut turns = u64::MAX;
-    while turns > 0 {
+    for _ in 0..u64::MAX {
         if done == buf.len() {
-            return Input::Got(done);
+            return Some(done);
         }
-        turns -= 1;
         match read_on(source, buf, done) {
             Step::More(n) => done += n,
             Step::Interrupted => {}
-            Step::Ended => return Input::Got(done),
+            Step::Ended => return Some(done),
             Step::Failed(error) => return failed(errors, what, error),
         }
     }
@@ -53,11 +49,11 @@ pub fn read<R: Read, P: Print>(source: &mut R, errors: &P, what: &[u8], buf: &mu
 }
 
 // Reports a failed read.
-fn failed<P: Print>(errors: &P, what: &[u8], error: io::Error) -> Input
-    ensures { result ≡ Input.Failed }
+fn failed<P: Print>(errors: &P, what: &[u8], error: io::Error) -> Option<usize>
+    ensures { result ≡ None }
 {
     report(errors, what, error);
-    Input::Failed
+    None
 }
 
 // One read into the places of `buf` from `at` on; those before stay as they are.
@@ -75,26 +71,17 @@ fn step_of(got: io::Result<usize>, part: &[u8]) -> Step
     ensures { StepOf got (length part.now) result }
 {
     match got {
-        Ok(n) => {
-            if n == 0 {
-                return Step::Ended;
-            }
-            Step::More(n.min(part.len()))
-        }
-        Err(error) => {
-            if error.kind() == ErrorKind::Interrupted {
-                return Step::Interrupted;
-            }
-            return Step::Failed(error);
-        }
+        Ok(0) => Step::Ended,
+        Ok(n) => Step::More(n.min(part.len())),
+        Err(error) if error.kind() == ErrorKind::Interrupted => Step::Interrupted,
+        Err(error) => Step::Failed(error),
     }
 }
 
 // Writes all of `bytes`. A write that fails, or that takes only a part and then no more, is reported to `errors` under the name `what`.
 pub fn write<W: Print, P: Print>(sink: &W, errors: &P, what: &[u8], bytes: &[u8]) {
-    match sink.write_all(bytes) {
-        Ok(()) => {}
-        Err(error) => report(errors, what, error),
+    if let Err(error) = sink.write_all(bytes) {
+        report(errors, what, error);
     }
 }
 
@@ -102,10 +89,7 @@ pub fn write<W: Print, P: Print>(sink: &W, errors: &P, what: &[u8], bytes: &[u8]
 fn report<P: Print>(errors: &P, what: &[u8], error: io::Error) {
     let words = InlineText::<MOST_WORDS>::of(error);
     let text = words.as_str();
-    let end = match text.find(" (os error ") {
-        Some(at) => at,
-        None => text.len(),
-    };
+    let end = text.find(" (os error ").unwrap_or(text.len());
     let said = text.split_at(end).0;
     // Where standard error fails too, there is nowhere left to say it.
     let _named = errors.write_all(what);

@@ -24,7 +24,7 @@ use Rattle.transducer.specs.declared.Transducer.{Transducer}
 use Rattle.transducer.proofs.Bools.{and_left}
 use Rattle.transducer.proofs.LineLaws.{made_at, made_shaped}
 use Rattle.transducer.proofs.AcceptedLaws.{made_accepted}
-use Rattle.tablereader.specs.declared.Reading.{Reading}
+use Rattle.tablereader.specs.Outcome.{number_of}
 use Rattle.tablereader.proofs.TransitionRecords.{no_code}
 use Rattle.tablewriter.specs.File.{states_below, size_of, outputs_below, write_of}
 use Rattle.tablewriter.proofs.LengthLaws.{size_in, written_length}
@@ -124,6 +124,6 @@ pub longest_taken : LongestTaken
 longest_taken =
     record {
       file = write_of full;
-      taken = ap (λ (r : Reading). r.outcome) (read_written full full_accepted full_shaped);
+      taken = ap number_of (read_written full full_accepted full_shaped);
       size = full_size;
     }

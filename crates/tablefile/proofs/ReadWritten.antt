@@ -9,7 +9,7 @@ use borrow.Author.Tests.{le-ltb}
 use lib.ListN.{length, get_or, drop, length-drop}
 use Rattle.records.specs.Letters.{letter_t, letter_s, letter_f}
 use Rattle.records.specs.Reading.{filled}
-use Rattle.records.proofs.FilledLaws.{firsts_at}
+use Rattle.transducer.proofs.LineLaws.{get_d_firsts}
 use Rattle.records.proofs.RecordTrip.{RecordRead, record_read}
 use Rattle.transducer.specs.Limits.{most_states, most_transitions}
 use Rattle.transducer.specs.StateSet.{In, no_states}
@@ -22,19 +22,20 @@ use Rattle.transducer.specs.Lines.{keeping}
 use Rattle.transducer.specs.declared.Transducer.{Transducer}
 use Rattle.transducer.proofs.AcceptedLaws.{accepted_valid, made_again}
 use Rattle.transducer.proofs.SizeLaws.{length_firsts}
-use Rattle.tablereader.specs.Outcome.{outcome_for, ◌▸◌}
+use Rattle.tablereader.specs.Outcome.{outcome_for}
 use Rattle.tablereader.specs.Record.{header_ranges, header_size, state_size}
 use Rattle.tablereader.specs.Header.{counts_of, header_of}
 use Rattle.tablereader.specs.States.{states_from}
 use Rattle.tablereader.specs.Transitions.{transitions_from}
 use Rattle.tablereader.specs.Reader.{end_fault_of, record_count, starts_of, finals_of, transitions_of, outcome_with, records_with, table_with, read_of}
 use Rattle.tablereader.specs.declared.header.Header.{Header}
-use Rattle.tablereader.specs.declared.Outcome.TheVariants.{Taken, BytesFollow}
+use Rattle.std.specs.Prelude.{None, Ok}
 use Rattle.tablereader.proofs.TakenLaws.{end_follows}
 use Rattle.tablewriter.specs.File.{states_of, size_of, state_bytes, transition_bytes_below, header_bytes, write_of}
 use Rattle.tablewriter.proofs.FileLaws.{file_then}
 use Rattle.transducer.proofs.LineLaws.{clear_same, made_keeping}
 use Rattle.tablewriter.proofs.LengthLaws.{size_most}
+use Rattle.tablefile.specs.RoundTrips.{taken_as, followed_at}
 use Rattle.tablefile.proofs.Rising.{add_states, set_rising}
 use Rattle.tablefile.proofs.Filled.{filled_firsts}
 use Rattle.tablefile.proofs.StateRecords.{states_read}
@@ -51,12 +52,12 @@ used : (t : Transducer) → Valid t → Shaped t → (j : ℕ) → j < length (f
 used t v s j h =
     let few = v.few_transitions in
     let inside : j < t.count = omega (arith, length_firsts t.count (at t)) in
-    rw (firsts_at t.count (at t) j outside inside)
+    rw (get_d_firsts t.count (at t) outside j inside)
     (record { used = v.used j inside; size = s.outputs j (omega arith) })
 
 -- the counts of t
 abbrev counts : Transducer → Header
-counts t = record { fault = 0; states = t.states; starts = size_of t.starts; finals = size_of t.finals; transitions = t.count }
+counts t = record { fault = None; states = t.states; starts = size_of t.starts; finals = size_of t.finals; transitions = t.count }
 
 module _ (t : Transducer) (v : Valid t) (s : Shaped t) (text rest : List ℕ) (is : text ≡ write_of t ++ rest) where
   -- the parts of the file
@@ -95,7 +96,7 @@ module _ (t : Transducer) (v : Valid t) (s : Shaped t) (text rest : List ℕ) (i
 
   -- the records of a set of states give the set
   record SetRead (letter at rec : ℕ) (set : StateSet) (after : List ℕ) : Type 0 where
-    read : states_from (size_of set) text letter t.states at rec ≡ record { outcome = Taken; set = set }
+    read : states_from (size_of set) text letter t.states at rec ≡ record { outcome = Ok tt; set = set }
     follows : drop (at + state_size * size_of set) text ≡ after
 
   set_read : (letter at rec : ℕ) (set : StateSet) (after : List ℕ) → length set.member ≡ most_states → ((q : ℕ) → In set q → q < t.states)
@@ -119,7 +120,7 @@ module _ (t : Transducer) (v : Valid t) (s : Shaped t) (text rest : List ℕ) (i
   -- the records of the transitions give them, and what is behind the file follows
   record AllRead (at rec : ℕ) : Type 0 where
     end : ℕ
-    read : transitions_from t.count text t.states at rec ≡ record { outcome = Taken; next = end; transitions = t.transitions }
+    read : transitions_from t.count text t.states at rec ≡ record { outcome = Ok tt; next = end; transitions = t.transitions }
     follows : drop end text ≡ rest
 
   transitions_there : (place rec : ℕ) → drop place text ≡ transitions ++ rest → AllRead place rec
@@ -139,7 +140,7 @@ module _ (t : Transducer) (v : Valid t) (s : Shaped t) (text rest : List ℕ) (i
 
   -- the end alone decides
   outcome_end : outcome_with text (counts t) ≡ outcome_for (end_fault_of text all_read.end) (record_count (counts t))
-  unfolding outcome_with starts_of finals_of transitions_of outcome_for ◌▸◌
+  unfolding outcome_with starts_of finals_of transitions_of
   outcome_end = rw (starts_read.read, finals_read.read, all_read.read)
 
   -- the set that is kept is worked out anew
@@ -147,24 +148,24 @@ module _ (t : Transducer) (v : Valid t) (s : Shaped t) (text rest : List ℕ) (i
   unfolding table_with records_with starts_of finals_of transitions_of keeping
   table_same = rw (starts_read.read, finals_read.read, all_read.read)
 
-  text_read : length rest ≡ 0 → read_of text ≡ record { outcome = Taken; table = keeping t }
-  unfolding read_of outcome_for end_fault_of
+  text_read : length rest ≡ 0 → read_of text ≡ taken_as (keeping t)
+  unfolding read_of end_fault_of
   text_read none = rw (header_same, outcome_end, table_same, le-ltb all_read.end (length text) (omega (arith, left)))
 
-  text_followed : 1 ≤ length rest → (read_of text).outcome ≡ BytesFollow (record_count (header_of text))
-  unfolding read_of outcome_for
+  text_followed : 1 ≤ length rest → read_of text ≡ followed_at (record_count (header_of text))
+  unfolding read_of
   text_followed some = rw (header_same, outcome_end, end_follows text all_read.end (omega (arith, left)))
 
 -- reading a written table gives that table
-pub read_written : (t : Transducer) → accepted_of t ≡ true → Shaped t → read_of (write_of t) ≡ record { outcome = Taken; table = t }
+pub read_written : (t : Transducer) → accepted_of t ≡ true → Shaped t → read_of (write_of t) ≡ taken_as t
 read_written t v s =
     rw (← made_keeping t (accepted_valid t v) s, made_again t v s) at (text_read t (accepted_valid t v) s (write_of t) [] (sym (append-nil (write_of t))) refl)
 
 -- with bytes behind it it is refused with 6, at the count of its records
 pub read_followed : (t : Transducer) → accepted_of t ≡ true → Shaped t → (rest : List ℕ) → 1 ≤ length rest
-    → (read_of (write_of t ++ rest)).outcome ≡ BytesFollow (record_count (header_of (write_of t)))
+    → read_of (write_of t ++ rest) ≡ followed_at (record_count (header_of (write_of t)))
 read_followed t v s rest some =
     let valid = accepted_valid t v in
     let alone = header_same t valid s (write_of t) [] (sym (append-nil (write_of t))) in
     let with_rest = header_same t valid s (write_of t ++ rest) rest refl in
-    text_followed t valid s (write_of t ++ rest) rest refl some ∙ ap (λ h. BytesFollow (record_count h)) (with_rest ∙ sym alone)
+    text_followed t valid s (write_of t ++ rest) rest refl some ∙ ap (λ h. followed_at (record_count h)) (with_rest ∙ sym alone)

@@ -15,7 +15,7 @@ use Rattle.transducer.proofs.AcceptedLaws.{accepted_valid, made_valid_accepted}
 use Rattle.transducer.proofs.LineLaws.{appended_lines, appended_valid, appended_shaped}
 use Rattle.transducer.proofs.AlikeLaws.{pasted_alike}
 use Rattle.tablewriter.specs.File.{states_of, state_bytes, transition_bytes, transition_bytes_below, header_bytes, write_of}
-use Rattle.tablewriter.proofs.FileLaws.{flat_map_append}
+use Rattle.std.proofs.lemmas.Grind.{flat_map-append}
 use Rattle.tablefile.specs.Repeats.{RepeatsKept}
 use Rattle.tablefile.proofs.ReadWritten.{read_written}
 
@@ -33,7 +33,7 @@ module _ (t : Transducer) (v : Transition) where
 
   appended_written : write_of (appended t v) ≡ front ++ transition_bytes v
   unfolding write_of transition_bytes_below transducer_of flat_map
-  appended_written = rw (appended_lines t v) (simp (flat_map_append transition_bytes, append-nil, append_assoc))
+  appended_written = rw (appended_lines t v) (simp (flat_map-append transition_bytes, append-nil, append_assoc))
 
 -- the theorem
 pub repeats_kept : RepeatsKept

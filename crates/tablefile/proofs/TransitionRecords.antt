@@ -10,7 +10,7 @@ use lib.Seq.{ext_get_or, sets}
 use Rattle.records.specs.Letters.{letter_l}
 use Rattle.records.specs.Reading.{range, values_at, in_array, record_at}
 use Rattle.records.specs.declared.reading.Record.{Record}
-use Rattle.records.proofs.FilledLaws.{firsts_at}
+use Rattle.transducer.proofs.LineLaws.{get_d_firsts}
 use Rattle.records.proofs.RangeLaws.{Each, each_made, values_length}
 use Rattle.records.proofs.RecordTrip.{Fits, record_read, record_back}
 use Rattle.transducer.specs.Limits.{most_outputs, most_code}
@@ -20,11 +20,10 @@ use Rattle.transducer.specs.declared.OutputCode.{OutputCode}
 use Rattle.transducer.specs.declared.Transition.{Transition}
 use Rattle.transducer.proofs.Bools.{le_or_lt}
 use Rattle.transducer.proofs.SizeLaws.{length_firsts, length_bytes, length_written}
-use Rattle.tablereader.specs.Outcome.{outcome_for, ◌▸◌}
+use Rattle.std.specs.Prelude.{None, Ok}
+use Rattle.tablereader.specs.Outcome.{Outcome, outcome_for, ◌▸◌}
 use Rattle.tablereader.specs.Record.{transition_ranges}
 use Rattle.tablereader.specs.Transitions.{count_at, transition_record_of, code_of, transition_with, read_transitions_of}
-use Rattle.tablereader.specs.declared.Outcome.{Outcome}
-use Rattle.tablereader.specs.declared.Outcome.TheVariants.{Taken}
 use Rattle.tablereader.proofs.TransitionRecords.{no_code, transition_same, transition_used, values, few_values, codes, code_at}
 use Rattle.tablereader.proofs.TakenLaws.{then_taken, taken_passes}
 use Rattle.tablewriter.specs.File.{transition_bytes}
@@ -53,7 +52,7 @@ module _ (n : ℕ) (v : Transition) (u : Used n v) where
       ∙ ap (λ (c : OutputCode). c.0) (⊎_elim beyond inside (le_or_lt v.count j))
     where
       inside : j < v.count → get_or (written_by v) j no_code ≡ output_at v j
-      inside k = firsts_at v.count (output_at v) j no_code k
+      inside k = get_d_firsts v.count (output_at v) no_code j k
 
       beyond : v.count ≤ j → get_or (written_by v) j no_code ≡ output_at v j
       beyond k =
@@ -98,7 +97,7 @@ module _ (n : ℕ) (v : Transition) (u : Used n v) where
       outputs =
           ext_get_or no_code (firsts most_outputs (code_of (values_of v))) v.output (length_firsts most_outputs (code_of (values_of v)) ∙ sym size)
           (λ j h. let inside : j < most_outputs = omega (arith, length_firsts most_outputs (code_of (values_of v))) in
-          firsts_at most_outputs (code_of (values_of v)) j no_code inside ∙ (λ i. record { 0 = byte_at j inside i }))
+          get_d_firsts most_outputs (code_of (values_of v)) no_code j inside ∙ (λ i. record { 0 = byte_at j inside i }))
 
 module _ (text : List ℕ) (n : ℕ) where
   -- ---- one transition
@@ -106,7 +105,7 @@ module _ (text : List ℕ) (n : ℕ) where
   -- the record at a place gives v, and the rest follows
   record TransitionRead (at : ℕ) (v : Transition) (rest : List ℕ) : Type 0 where
     end : ℕ
-    read : transition_record_of text at n ≡ record { fault = 0; next = end; values = in_array (values_of v) }
+    read : transition_record_of text at n ≡ record { fault = None; next = end; values = in_array (values_of v) }
     follows : drop end text ≡ rest
 
   transition_read : (at : ℕ) (v : Transition) (rest : List ℕ) → n ≤ 9999 → UsedIn n v → drop at text ≡ transition_bytes v ++ rest → TransitionRead at v rest
@@ -133,7 +132,7 @@ module _ (text : List ℕ) (n : ℕ) where
       ap (λ (l : List ℕ). v.from ∷ v.to ∷ v.input.0 ∷ v.count ∷ l) same
 
   -- the record at a place is the one of the transition that it gives
-  transition_back : (at : ℕ) → 1 ≤ n → (transition_record_of text at n).fault ≡ 0
+  transition_back : (at : ℕ) → 1 ≤ n → (transition_record_of text at n).fault ≡ None
       → drop at text ≡ transition_bytes (transition_with (transition_record_of text at n).values) ++ drop (transition_record_of text at n).next text
   unfolding transition_record_of record_at transition_bytes
   transition_back at some e =
@@ -145,15 +144,15 @@ module _ (text : List ℕ) (n : ℕ) where
   -- the records at a place give all of vs, and the rest follows
   pub record TransitionsRead (at rec i : ℕ) (l vs : List Transition) (rest : List ℕ) : Type 0 where
     pub end : ℕ
-    pub read : read_transitions_of (length vs) text n at rec i Taken l ≡ record { outcome = Taken; next = end; transitions = sets l i vs }
+    pub read : read_transitions_of (length vs) text n at rec i (Ok tt) l ≡ record { outcome = Ok tt; next = end; transitions = sets l i vs }
     pub follows : drop end text ≡ rest
 
   transition_turn : (k at rec i end : ℕ) (l : List Transition) (v : Transition)
-      → transition_record_of text at n ≡ record { fault = 0; next = end; values = in_array (values_of v) } → transition_with (in_array (values_of v)) ≡ v
-      → read_transitions_of (suc k) text n at rec i Taken l ≡ read_transitions_of k text n end (rec + 1) (suc i) Taken (set l i v)
-  unfolding read_transitions_of outcome_for ◌▸◌
+      → transition_record_of text at n ≡ record { fault = None; next = end; values = in_array (values_of v) } → transition_with (in_array (values_of v)) ≡ v
+      → read_transitions_of (suc k) text n at rec i (Ok tt) l ≡ read_transitions_of k text n end (rec + 1) (suc i) (Ok tt) (set l i v)
+  unfolding read_transitions_of
   transition_turn k at rec i end l v e w =
-      ap (λ (r : Record). read_transitions_of k text n r.next (rec + 1) (i + 1) (Taken ▸ outcome_for r.fault rec) (set l i (transition_with r.values))) e
+      ap (λ (r : Record). read_transitions_of k text n r.next (rec + 1) (i + 1) (Ok (tt {0}) ▸ outcome_for r.fault rec) (set l i (transition_with r.values))) e
       ∙ rw (w, add-one i)
 
   pub transitions_read : (at rec i : ℕ) (l vs : List Transition) (rest : List ℕ) → n ≤ 9999 → ((j : ℕ) → j < length vs → UsedIn n (get_or vs j outside))
@@ -175,10 +174,10 @@ module _ (text : List ℕ) (n : ℕ) where
     pub list : List Transition
     pub size : length list ≡ k
     pub stored : (read_transitions_of k text n at rec i outcome l).transitions ≡ sets l i list
-    pub taken : outcome ≡ Taken
+    pub taken : outcome ≡ Ok tt
     pub bytes : drop at text ≡ flat_map transition_bytes list ++ drop (read_transitions_of k text n at rec i outcome l).next text
 
-  pub transitions_back : (k at rec i : ℕ) (outcome : Outcome) (l : List Transition) → 1 ≤ n → (read_transitions_of k text n at rec i outcome l).outcome ≡ Taken
+  pub transitions_back : (k at rec i : ℕ) (outcome : Outcome) (l : List Transition) → 1 ≤ n → (read_transitions_of k text n at rec i outcome l).outcome ≡ Ok tt
       → TransitionsBack k at rec i outcome l
   unfolding read_transitions_of flat_map
   transitions_back zero at rec i outcome l h e = record { list = []; size = refl; stored = refl; taken = e; bytes = refl }
@@ -186,7 +185,7 @@ module _ (text : List ℕ) (n : ℕ) where
       let r = transition_record_of text at n in
       let v = transition_with r.values in
       let others = transitions_back k r.next (rec + 1) (i + 1) (outcome ▸ outcome_for r.fault rec) (set l i v) h e in
-      let both = then_taken outcome (outcome_for r.fault rec) others.taken in
+      let both = then_taken outcome (outcome_for r.fault rec) tt others.taken in
       record {
         list = v ∷ others.list;
         size = ap suc others.size;

@@ -14,15 +14,15 @@ use Rattle.records.specs.Letters.{letter_t, letter_s, letter_f, letter_l, most_b
 use Rattle.records.specs.Reading.{range}
 use Rattle.records.specs.declared.reading.Number.{Number}
 use Rattle.records.proofs.Behind.{number_behind, record_behind}
+use Rattle.std.specs.Prelude.{Ok}
+use Rattle.tablereader.specs.Outcome.{Outcome}
 use Rattle.tablereader.specs.Record.{header_ranges, state_ranges, header_size, state_size, transition_size}
-use Rattle.tablereader.specs.Header.{counts_of, header_of}
+use Rattle.tablereader.specs.Header.{Counted, counts_of, header_of}
 use Rattle.tablereader.specs.States.{state_record_of, read_states_of, states_from}
 use Rattle.tablereader.specs.Transitions.{count_at, transition_record_of, read_transitions_of, transitions_from}
 use Rattle.tablereader.specs.Reader.{starts_of, finals_of, transitions_of, outcome_with, records_with, table_with, read_of}
-use Rattle.tablereader.specs.declared.Outcome.{Outcome}
-use Rattle.tablereader.specs.declared.Outcome.TheVariants.{Taken}
 use Rattle.tablereader.specs.declared.header.Header.{Header}
-use Rattle.tablereader.proofs.HeaderRecord.{Counted, counted}
+use Rattle.tablereader.proofs.HeaderRecord.{counted}
 use Rattle.tablereader.proofs.TransitionRecords.{ranges, few_codes, transition_next}
 use Rattle.tablereader.proofs.TakenLaws.{end_follows}
 use Rattle.tablereader.proofs.Reach.{next_at_most}
@@ -38,7 +38,7 @@ module _ (text rest : List ℕ) where
   set_behind : (count letter n at first : ℕ) → at + state_size * count ≤ length text
       → states_from count (text ++ rest) letter n at first ≡ states_from count text letter n at first
   unfolding states_from
-  set_behind count letter n at first h = states_behind count letter n at 0 first Taken no_states h
+  set_behind count letter n at first h = states_behind count letter n at 0 first (Ok tt) no_states h
 
   count_behind : (at : ℕ) → at + transition_size ≤ length text → count_at (text ++ rest) at ≡ count_at text at
   unfolding count_at
@@ -77,7 +77,7 @@ module _ (text rest : List ℕ) where
     transitions_same : transitions_of (text ++ rest) h ≡ transitions_of text h
     unfolding transitions_of transitions_from
     transitions_same =
-        transitions_behind h.transitions h.states (header_size + state_size * h.starts + state_size * h.finals) (1 + h.starts + h.finals) 0 Taken
+        transitions_behind h.transitions h.states (header_size + state_size * h.starts + state_size * h.finals) (1 + h.starts + h.finals) 0 (Ok tt)
         blank_transducer.transitions (omega (arith, c.few_starts, c.few_finals, c.few_transitions))
 
     table_same : table_with (text ++ rest) h ≡ table_with text h

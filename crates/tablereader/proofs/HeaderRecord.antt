@@ -1,21 +1,14 @@
 -- The counts that the header gives are in their ranges, also where it is refused. Assumes nothing.
 use mathlib.Core.Path.{◌≡◌}
 use mathlib.Core.List.{List}
-use Prim.Native.Nat.{ℕ, ◌≤◌}
+use Prim.Native.Nat.{ℕ}
 use native.Mathlib.Omega.{arith}
-use Rattle.transducer.specs.Limits.{most_states, most_transitions}
+use Rattle.transducer.specs.Limits.{most_transitions}
 use Rattle.records.specs.Reading.{values_at, record_at}
 use Rattle.records.proofs.RangeLaws.{Proper, values_within}
 use Rattle.tablereader.specs.Record.{header_ranges}
-use Rattle.tablereader.specs.Header.{header_of}
+use Rattle.tablereader.specs.Header.{Counted, header_of}
 use Rattle.tablereader.specs.declared.header.Header.{Header}
-
-pub record Counted (h : Header) : Type 0 where
-  pub some_state : 1 ≤ h.states
-  pub few_states : h.states ≤ most_states
-  pub few_starts : h.starts ≤ most_states
-  pub few_finals : h.finals ≤ most_states
-  pub few_transitions : h.transitions ≤ most_transitions
 
 pub counted : (text : List ℕ) (h : Header) → h ≡ header_of text → Counted h
 unfolding header_of record_at values_at

@@ -7,13 +7,12 @@ use lib.ListN.{set}
 use Rattle.transducer.specs.Blank.{blank_transducer}
 use Rattle.transducer.specs.declared.Transition.{Transition}
 use Rattle.records.specs.Letters.{most_bytes}
-use Rattle.tablereader.specs.Outcome.{outcome_for, ◌▸◌}
+use Rattle.std.specs.Prelude.{Ok}
+use Rattle.tablereader.specs.Outcome.{Outcome, outcome_for, ◌▸◌}
 use Rattle.tablereader.specs.Record.{header_size, state_size, transition_size}
 use Rattle.tablereader.specs.Header.{header_of}
 use Rattle.tablereader.specs.Transitions.{transition_record_of, transition_with, read_transitions_of, transitions_from}
 use Rattle.tablereader.specs.Reader.{transitions_of}
-use Rattle.tablereader.specs.declared.Outcome.{Outcome}
-use Rattle.tablereader.specs.declared.Outcome.TheVariants.{Taken}
 use Rattle.tablereader.proofs.HeaderRecord.{counted}
 use Rattle.tablereader.proofs.TransitionRecords.{transition_next}
 
@@ -42,5 +41,5 @@ next_at_most text =
       c.few_starts,
       c.few_finals,
       c.few_transitions,
-      transitions_next h.transitions text h.states start (1 + h.starts + h.finals) 0 Taken blank_transducer.transitions,
+      transitions_next h.transitions text h.states start (1 + h.starts + h.finals) 0 (Ok tt) blank_transducer.transitions,
     )

@@ -1,14 +1,17 @@
--- Two facts of what the reader gives, whatever the file is: the arrays of the table have their lengths; and the record of a refusal is at most the
--- number of records that a file can have. Assumes nothing.
+-- Facts of what the reader gives, whatever the file is: the arrays of the table have their lengths; the record of a refusal is at most the number of
+-- records that a file can have; and the refusal is one of a file. Assumes nothing.
 use mathlib.Core.Path.{◌≡◌, refl, ◌∙◌}
 use mathlib.Core.Bool.{Bool, true, false, cond}
 use mathlib.Core.List.{List}
 use Prim.Native.Nat.{ℕ, zero, suc, ◌+◌, ◌≤◌, ◌<◌}
 use native.Mathlib.Omega.{arith}
-use lib.Dec.{eqb}
+use lib.Dec.{ltb}
 use lib.ListN.{length, get_or, length-set}
 use Rattle.transducer.specs.Limits.{most_transitions, most_outputs}
-use Rattle.transducer.specs.Refusals.{ended, wrong_byte, not_a_number, out_of_range, not_rising}
+use Rattle.std.specs.Prelude.{Option, None, Some, Ok, Err}
+use Rattle.transducer.specs.Refusals.{bytes_follow}
+use Rattle.transducer.specs.declared.refusals.Refusal.{Refusal}
+use Rattle.transducer.specs.declared.refusals.Refusal.TheVariants.{BytesFollow}
 use Rattle.transducer.specs.Transition.{outside}
 use Rattle.transducer.specs.Blank.{blank_transducer}
 use Rattle.transducer.specs.Valid.{Shaped}
@@ -17,18 +20,18 @@ use Rattle.transducer.specs.declared.StateSet.{StateSet}
 use Rattle.transducer.specs.declared.Transition.{Transition}
 use Rattle.transducer.proofs.SizeLaws.{length_firsts}
 use Rattle.transducer.proofs.LineLaws.{set_long}
-use Rattle.records.specs.Letters.{letter_s, letter_f}
-use Rattle.tablereader.specs.Outcome.{number_of, record_of, outcome_for, ◌▸◌}
-use Rattle.tablereader.specs.Record.{most_records}
-use Rattle.tablereader.specs.Header.{header_of}
-use Rattle.tablereader.specs.States.{read_states_of, states_from}
-use Rattle.tablereader.specs.Transitions.{transition_with, read_transitions_of, transitions_from}
-use Rattle.tablereader.specs.Reader.{record_count, starts_of, finals_of, transitions_of, outcome_with, records_with, table_with, read_of}
-use Rattle.tablereader.specs.declared.Outcome.{Outcome}
-use Rattle.tablereader.specs.declared.Outcome.TheVariants.{Taken, Ended, WrongByte, NotANumber, OutOfRange, NotRising, BytesFollow}
+use Rattle.records.specs.Letters.{letter_t, letter_s, letter_f, letter_l}
+use Rattle.records.specs.Reading.{record_at}
+use Rattle.records.proofs.FaultLaws.{OfFile, record_of_file}
+use Rattle.tablereader.specs.Outcome.{Outcome, number_of, record_of, table_of_reading, outcome_for, ◌▸◌}
+use Rattle.tablereader.specs.Record.{most_records, header_ranges, state_ranges, transition_ranges}
+use Rattle.tablereader.specs.Header.{Counted, header_of}
+use Rattle.tablereader.specs.States.{state_record_of, read_states_of, states_from}
+use Rattle.tablereader.specs.Transitions.{count_at, transition_record_of, transition_with, read_transitions_of, transitions_from}
+use Rattle.tablereader.specs.Reader.{end_fault_of, record_count, starts_of, finals_of, transitions_of, outcome_with, records_with, table_with, read_of}
 use Rattle.tablereader.specs.declared.header.Header.{Header}
 use Rattle.tablereader.proofs.Stores.{after_set}
-use Rattle.tablereader.proofs.HeaderRecord.{Counted, counted}
+use Rattle.tablereader.proofs.HeaderRecord.{counted}
 use Rattle.tablereader.proofs.StateRecords.{states_from_below}
 use Rattle.transducer.proofs.BlankLaws.{blank_shaped}
 
@@ -71,68 +74,87 @@ table_shaped text h c =
       useful = set_long h.states (starts_of text h).set (finals_of text h).set (lines_of (records_with text h));
     }
 
-pub read_shaped : (text : List ℕ) → Shaped (read_of text).table
+pub read_shaped : (text : List ℕ) → Shaped (table_of_reading (read_of text))
 unfolding read_of
-read_shaped text = go (eqb (number_of (outcome_with text (header_of text))) 0)
+read_shaped text = go (outcome_with text (header_of text))
   where
-    go : (x : Bool) → Shaped (cond x (table_with text (header_of text)) blank_transducer)
-    go true = table_shaped text (header_of text) (counted text (header_of text) refl)
-    go false = blank_shaped
+    go : (o : Outcome) → Shaped (table_of_reading (o ▸ Ok (table_with text (header_of text))))
+    go (Ok passed) = table_shaped text (header_of text) (counted text (header_of text) refl)
+    go (Err r) = blank_shaped
 
--- ---- the records
+-- ---- the refusals
 
--- an outcome that comes with no record beyond m
+-- an outcome with no record beyond m, and a refusal of a file
 record Low (m : ℕ) (o : Outcome) : Type 0 where
-  low : record_of o ≤ m
+  at_record : record_of o ≤ m
+  of_file : number_of o ≤ bytes_follow
 
 module _ {m : ℕ} where
-  at_record : (o : Outcome) → record_of o ≤ m → Low m o
-  at_record o h = record { low = h }
+  passed_low : Low m (Ok tt)
+  passed_low = record { at_record = omega arith; of_file = omega arith }
 
-  either_low : (x : Bool) {a b : Outcome} → Low m a → Low m b → Low m (cond x a b)
-  either_low true h k = h
-  either_low false h k = k
+  outcome_low : (fault : Option Refusal) (rec : ℕ) → OfFile fault → rec ≤ m → Low m (outcome_for fault rec)
+  outcome_low None rec f h = passed_low
+  outcome_low (Some refusal) rec f h = record { at_record = h; of_file = f }
 
-  outcome_low : (fault rec : ℕ) → rec ≤ m → Low m (outcome_for fault rec)
-  unfolding outcome_for
-  outcome_low fault rec h =
-      either_low (eqb fault 0) (at_record Taken (omega arith))
-      (either_low (eqb fault ended) (at_record (Ended rec) h)
-      (either_low (eqb fault wrong_byte) (at_record (WrongByte rec) h)
-      (either_low (eqb fault not_a_number) (at_record (NotANumber rec) h)
-      (either_low (eqb fault out_of_range) (at_record (OutOfRange rec) h)
-      (either_low (eqb fault not_rising) (at_record (NotRising rec) h) (at_record (BytesFollow rec) h))))))
-
-  then_low : {a b : Outcome} → Low m a → Low m b → Low m (a ▸ b)
-  unfolding ◌▸◌
-  then_low {a} h k = either_low (eqb (number_of a) 0) k h
+  then_low : (a b : Outcome) → Low m a → Low m b → Low m (a ▸ b)
+  then_low (Ok passed) b h k = k
+  then_low (Err r) b h k = record { at_record = h.at_record; of_file = h.of_file }
 
   states_low : (k : ℕ) (text : List ℕ) (letter n at low rec : ℕ) (outcome : Outcome) (s : StateSet) → rec + k ≤ m → Low m outcome
       → Low m (read_states_of k text letter n at low rec outcome s).outcome
-  unfolding read_states_of
+  unfolding read_states_of state_record_of record_at
   states_low zero text letter n at low rec outcome s h o = o
   states_low (suc k) text letter n at low rec outcome s h o =
-      states_low k text letter n _ _ (rec + 1) _ _ (omega arith) (then_low o (outcome_low _ rec (omega arith)))
+      states_low k text letter n _ _ (rec + 1) _ _ (omega arith) (then_low _ _ o (outcome_low _ rec (record_of_file text at letter (state_ranges n low)) (omega arith)))
 
   transitions_low : (k : ℕ) (text : List ℕ) (n at rec i : ℕ) (outcome : Outcome) (l : List Transition) → rec + k ≤ m → Low m outcome
       → Low m (read_transitions_of k text n at rec i outcome l).outcome
-  unfolding read_transitions_of
+  unfolding read_transitions_of transition_record_of record_at
   transitions_low zero text n at rec i outcome l h o = o
   transitions_low (suc k) text n at rec i outcome l h o =
-      transitions_low k text n _ (rec + 1) _ _ _ (omega arith) (then_low o (outcome_low _ rec (omega arith)))
+      transitions_low k text n _ (rec + 1) _ _ _ (omega arith)
+      (then_low _ _ o (outcome_low _ rec (record_of_file text at letter_l (transition_ranges n (count_at text at))) (omega arith)))
 
-outcome_with_low : (text : List ℕ) (h : Header) → Counted h → Low most_records (outcome_with text h)
+header_of_file : (text : List ℕ) → OfFile (header_of text).fault
+unfolding header_of record_at
+header_of_file text = record_of_file text 0 letter_t header_ranges
+
+end_of_file : (text : List ℕ) (at : ℕ) → OfFile (end_fault_of text at)
+unfolding end_fault_of
+end_of_file text at = go (ltb at (length text))
+  where
+    go : (x : Bool) → OfFile (cond x (Some BytesFollow) None)
+    go true = omega arith
+    go false = tt
+
+outcome_with_low : (text : List ℕ) → Low most_records (outcome_with text (header_of text))
 unfolding outcome_with starts_of finals_of transitions_of states_from transitions_from
-outcome_with_low text h c =
+outcome_with_low text =
+    let h = header_of text in
+    let c = counted text h refl in
     let all : record_count h ≤ most_records = omega (arith, c.few_starts, c.few_finals, c.few_transitions) in
     let some : 1 + h.starts ≤ most_records = omega arith in
     let more : 1 + h.starts + h.finals ≤ most_records = omega arith in
-    let none : Low most_records Taken = record { low = omega arith } in
-    let starts = states_low h.starts text letter_s h.states _ _ 1 Taken _ some none in
-    let finals = states_low h.finals text letter_f h.states _ _ (1 + h.starts) Taken _ more none in
-    let lines = transitions_low h.transitions text h.states _ (1 + h.starts + h.finals) _ Taken _ all none in
-    then_low (then_low (then_low (then_low (outcome_low h.fault 0 none.low) starts) finals) lines) (outcome_low _ _ all)
+    let starts = states_low h.starts text letter_s h.states _ _ 1 (Ok tt) _ some passed_low in
+    let finals = states_low h.finals text letter_f h.states _ _ (1 + h.starts) (Ok tt) _ more passed_low in
+    let lines = transitions_low h.transitions text h.states _ (1 + h.starts + h.finals) _ (Ok tt) _ all passed_low in
+    let header = outcome_low h.fault 0 (header_of_file text) (omega arith) in
+    then_low _ _ (then_low _ _ (then_low _ _ (then_low _ _ header starts) finals) lines) (outcome_low _ _ (end_of_file text _) all)
 
-pub read_record_lem : (text : List ℕ) → record_of (read_of text).outcome ≤ most_records
+read_low : (text : List ℕ) → (record_of (read_of text) ≤ most_records) × (number_of (read_of text) ≤ bytes_follow)
 unfolding read_of
-read_record_lem text = (outcome_with_low text (header_of text) (counted text (header_of text) refl)).low
+read_low text = go (outcome_with text (header_of text)) (outcome_with_low text)
+  where
+    go : (o : Outcome) → Low most_records o
+        → (record_of (o ▸ Ok (table_with text (header_of text))) ≤ most_records) × (number_of (o ▸ Ok (table_with text (header_of text))) ≤ bytes_follow)
+    go (Ok passed) l = (omega arith, omega arith)
+    go (Err r) l = (l.at_record, l.of_file)
+
+-- the record of a refusal
+pub read_record_lem : (text : List ℕ) → record_of (read_of text) ≤ most_records
+read_record_lem text = (read_low text).0
+
+-- the number of what becomes of a file is at most 6
+pub number_low : (text : List ℕ) → number_of (read_of text) ≤ bytes_follow
+number_low text = (read_low text).1

@@ -4,7 +4,6 @@ use mathlib.Core.Bool.{Bool, true, false, cond, ◌&&◌}
 use mathlib.Core.List.{List}
 use Prim.Native.Nat.{ℕ, zero, suc, ◌+◌, ◌-◌, ◌≤◌, ◌<◌}
 use native.Mathlib.Nat.{not-suc-le-zero}
-use native.Mathlib.Numerals.{sub-one}
 use native.Mathlib.Omega.{arith}
 use borrow.Author.Tests.{ltb-true}
 use lib.Dec.{ltb}
@@ -16,11 +15,10 @@ use Rattle.transducer.proofs.Bools.{and_right}
 use Rattle.records.specs.Reading.{values_at, record_at}
 use Rattle.records.specs.declared.reading.Number.{Number}
 use Rattle.records.proofs.RangeLaws.{values_within}
-use Rattle.tablereader.specs.Outcome.{outcome_for, ◌▸◌}
+use Rattle.std.specs.Prelude.{Ok}
+use Rattle.tablereader.specs.Outcome.{Outcome, outcome_for, ◌▸◌}
 use Rattle.tablereader.specs.Record.{state_ranges, state_size}
 use Rattle.tablereader.specs.States.{state_record_of, read_states_of, states_from}
-use Rattle.tablereader.specs.declared.Outcome.{Outcome}
-use Rattle.tablereader.specs.declared.Outcome.TheVariants.{Taken}
 use Rattle.tablereader.proofs.Stores.{after_set}
 
 module _ (text : List ℕ) (letter n at low : ℕ) where
@@ -32,12 +30,11 @@ module _ (text : List ℕ) (letter n at low : ℕ) where
       rw e (omega arith)
 
   module _ (rec : ℕ) (outcome : Outcome) (states : StateSet) where
-    pub state_turn : (k : ℕ) (r : Number) (here after : Outcome) (states' : StateSet) → 0 < k → r ≡ state_record_of text letter n at low
-        → here ≡ outcome_for r.fault rec → after ≡ outcome ▸ here → states' ≡ with_state states r.value
-        → read_states_of k text letter n at low rec outcome states ≡ read_states_of (k - 1) text letter n (at + state_size) (r.value + 1) (rec + 1) after states'
+    pub state_turn : (k k' at' rec' : ℕ) (r : Number) (here after : Outcome) (states' : StateSet) → k ≡ suc k' → at' ≡ at + state_size → rec' ≡ rec + 1
+        → r ≡ state_record_of text letter n at low → here ≡ outcome_for r.fault rec → after ≡ outcome ▸ here → states' ≡ with_state states r.value
+        → read_states_of k text letter n at low rec outcome states ≡ read_states_of k' text letter n at' (r.value + 1) rec' after states'
     unfolding read_states_of
-    state_turn zero r here after states' h e o a w = absurd (not-suc-le-zero h)
-    state_turn (suc k) r here after states' h e o a w = rw (sub-one, a, o, w, e)
+    state_turn k k' at' rec' r here after states' left place number e o a w = rw (left, place, number, a, o, w, e)
 
     pub states_done : (k : ℕ) → k ≤ 0 → read_states_of k text letter n at low rec outcome states ≡ record { outcome = outcome; set = states }
     unfolding read_states_of
@@ -86,4 +83,4 @@ states_below_lem (suc k) text letter n at low rec outcome s h b =
 
 pub states_from_below : (count : ℕ) (text : List ℕ) (letter n at first : ℕ) → 1 ≤ n → Below n (states_from count text letter n at first).set
 unfolding states_from
-states_from_below count text letter n at first h = states_below_lem count text letter n at 0 first Taken no_states h (none_below n)
+states_from_below count text letter n at first h = states_below_lem count text letter n at 0 first (Ok tt) no_states h (none_below n)

@@ -1,13 +1,14 @@
 -- The records of transitions: a turn of their reading, and that what is read keeps the rules of a transition, also where a record is refused.
 -- Assumes nothing.
 use mathlib.Core.Path.{◌≡◌, refl, sym, ap, ◌∙◌}
-use mathlib.Core.List.{List, ◌∷◌}
+use mathlib.Core.List.{List}
 use Prim.Native.Nat.{ℕ, zero, suc, ◌+◌, ◌-◌, ◌*◌, ◌≤◌, ◌<◌}
 use native.Mathlib.Nat.{add-zero, zero-add, not-suc-le-zero}
-use native.Mathlib.Numerals.{add-one, sub-one}
+use native.Mathlib.Numerals.{add-one}
 use native.Mathlib.Omega.{arith}
 use lib.ListN.{length, get_or, take, drop, set, replicate, length-set, length-replicate, get_or-replicate, get_or-eq_default}
 use lib.Seq.{take-suc-set, get_or-drop}
+use Rattle.std.proofs.lemmas.List.{take-replicate}
 use Rattle.transducer.specs.Limits.{most_states, most_transitions, most_outputs, most_code}
 use Rattle.transducer.specs.Transition.{outside, firsts}
 use Rattle.transducer.specs.Blank.{clear_transition, blank_transducer}
@@ -21,13 +22,13 @@ use Rattle.records.specs.Reading.{range, number_at, values_at, in_array, record_
 use Rattle.records.specs.declared.reading.Number.{Number}
 use Rattle.records.specs.declared.reading.Range.{Range}
 use Rattle.records.specs.declared.reading.Record.{Record}
-use Rattle.records.proofs.FilledLaws.{filled_at, firsts_at}
+use Rattle.records.proofs.FilledLaws.{filled_at}
+use Rattle.transducer.proofs.LineLaws.{get_d_firsts}
 use Rattle.records.proofs.RangeLaws.{Within, Proper, proper_same, each_same, number_within, values_length, values_within, values_most}
-use Rattle.tablereader.specs.Outcome.{outcome_for, ◌▸◌}
+use Rattle.std.specs.Prelude.{Ok}
+use Rattle.tablereader.specs.Outcome.{Outcome, outcome_for, ◌▸◌}
 use Rattle.tablereader.specs.Record.{transition_ranges, transition_size}
 use Rattle.tablereader.specs.Transitions.{count_at, transition_record_of, code_of, transition_with, Small, read_transitions_of, transitions_from}
-use Rattle.tablereader.specs.declared.Outcome.{Outcome}
-use Rattle.tablereader.specs.declared.Outcome.TheVariants.{Taken}
 use Rattle.tablereader.proofs.Stores.{after_set}
 
 -- the code of a place that is not in use
@@ -37,12 +38,11 @@ no_code = record { 0 = 0 }
 -- ---- a turn of the reading
 
 module _ (text : List ℕ) (n at rec i : ℕ) (outcome : Outcome) (transitions : List Transition) where
-  pub transition_turn : (k : ℕ) (r : Record) (here after : Outcome) (v : Transition) → 0 < k → r ≡ transition_record_of text at n
-      → here ≡ outcome_for r.fault rec → after ≡ outcome ▸ here → v ≡ transition_with r.values
-      → read_transitions_of k text n at rec i outcome transitions ≡ read_transitions_of (k - 1) text n r.next (rec + 1) (i + 1) after (set transitions i v)
+  pub transition_turn : (k k' rec' : ℕ) (r : Record) (here after : Outcome) (v : Transition) → k ≡ suc k' → rec' ≡ rec + 1
+      → r ≡ transition_record_of text at n → here ≡ outcome_for r.fault rec → after ≡ outcome ▸ here → v ≡ transition_with r.values
+      → read_transitions_of k text n at rec i outcome transitions ≡ read_transitions_of k' text n r.next rec' (i + 1) after (set transitions i v)
   unfolding read_transitions_of
-  transition_turn zero r here after v h e o a w = absurd (not-suc-le-zero h)
-  transition_turn (suc k) r here after v h e o a w = rw (sub-one, a, o, w, e)
+  transition_turn k k' rec' r here after v left number e o a w = rw (left, number, a, o, w, e)
 
   pub transitions_done : (k : ℕ) → k ≤ 0
       → read_transitions_of k text n at rec i outcome transitions ≡ record { outcome = outcome; next = at; transitions = transitions }
@@ -52,11 +52,6 @@ module _ (text : List ℕ) (n at rec i : ℕ) (outcome : Outcome) (transitions :
 
 -- ---- the ranges of a record
 
-take_same : {A : Type 0} (k m : ℕ) (z : A) → k ≤ m → take k (replicate m z) ≡ replicate k z
-take_same zero m z h = refl
-take_same (suc k) zero z h = absurd (not-suc-le-zero h)
-take_same {A} (suc k) (suc m) z h = ap (λ (l : List A). z ∷ l) (take_same k m z (omega arith))
-
 -- the first ranges of the array, as many as the count asks for
 pub ranges_taken : (text : List ℕ) (at n : ℕ) (r : Number) → r ≡ number_at text (at + 1 + 3 * columns) (range 0 most_outputs)
     → take (4 + r.value) (transition_ranges n most_outputs) ≡ transition_ranges n (count_at text at)
@@ -65,7 +60,7 @@ ranges_taken text at n r e =
     let place : at + 1 + 3 * columns ≡ at + 1 + columns + columns + columns = omega arith in
     let few = (number_within text (at + 1 + 3 * columns) (range 0 most_outputs) r e (omega arith)).1 in
     let count : 4 + r.value ≡ suc (suc (suc (suc r.value))) = omega arith in
-    rw (count, take_same r.value most_outputs (range 1 most_code) few, e, place)
+    rw (count, take-replicate r.value most_outputs (range 1 most_code) few, e, place)
 
 -- ---- a transition that was read
 
@@ -136,7 +131,7 @@ module _ (text : List ℕ) (at n : ℕ) where
 
   pub code_at : (j : ℕ) → j < most_outputs → (get_or (transition_with values).output j no_code).0 ≡ get_or codes j 0
   unfolding transition_with values_at
-  code_at j h = ap (λ (c : OutputCode). c.0) (firsts_at most_outputs (code_of values) j no_code h)
+  code_at j h = ap (λ (c : OutputCode). c.0) (get_d_firsts most_outputs (code_of values) no_code j h)
 
   code_beyond : (j : ℕ) → count_at text at ≤ j → get_or codes j 0 ≡ 0
   code_beyond j h = get_or-eq_default codes 0 (rw (values_length, length-replicate) h)
@@ -205,4 +200,4 @@ pub transitions_from_placed : (count : ℕ) (text : List ℕ) (n at first : ℕ)
     → Placed n count (transitions_from count text n at first).transitions
 unfolding transitions_from
 transitions_from_placed count text n at first h few =
-    rw zero-add at (transitions_placed count text n at first 0 Taken blank_transducer.transitions h (omega arith) (blank_placed n))
+    rw zero-add at (transitions_placed count text n at first 0 (Ok tt) blank_transducer.transitions h (omega arith) (blank_placed n))

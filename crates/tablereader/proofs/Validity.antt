@@ -1,23 +1,22 @@
 -- What is read keeps the rules of a transducer. The values that are read are in their ranges also where a check is refused, so that it holds whatever
 -- the outcome is. Assumes nothing.
 use mathlib.Core.Path.{◌≡◌, refl}
-use mathlib.Core.Bool.{Bool, true, false, cond}
+use mathlib.Core.Bool.{true}
 use mathlib.Core.List.{List}
 use Prim.Native.Nat.{ℕ, ◌≤◌}
-use lib.Dec.{eqb}
 use Rattle.transducer.specs.Limits.{most_states, most_transitions}
-use Rattle.transducer.specs.Blank.{blank_transducer}
 use Rattle.transducer.specs.Valid.{Valid}
 use Rattle.transducer.specs.Accepted.{accepted_of}
 use Rattle.transducer.specs.declared.Transducer.{Transducer}
 use Rattle.transducer.proofs.AcceptedLaws.{keeping_accepted}
 use Rattle.transducer.proofs.BlankLaws.{blank_accepted}
-use Rattle.tablereader.specs.Outcome.{number_of}
+use Rattle.std.specs.Prelude.{Ok, Err}
+use Rattle.tablereader.specs.Outcome.{Outcome, ◌▸◌, table_of_reading}
 use Rattle.records.specs.Letters.{letter_s, letter_f}
-use Rattle.tablereader.specs.Header.{header_of}
+use Rattle.tablereader.specs.Header.{Counted, header_of}
 use Rattle.tablereader.specs.Reader.{starts_of, finals_of, transitions_of, outcome_with, records_with, table_with, read_of}
 use Rattle.tablereader.specs.declared.header.Header.{Header}
-use Rattle.tablereader.proofs.HeaderRecord.{Counted, counted}
+use Rattle.tablereader.proofs.HeaderRecord.{counted}
 use Rattle.tablereader.proofs.StateRecords.{Below, states_from_below}
 use Rattle.tablereader.proofs.TransitionRecords.{Placed, transitions_from_placed}
 
@@ -44,10 +43,10 @@ records_valid text h c =
     (transitions_from_placed h.transitions text h.states _ _ some c.few_transitions)
 
 -- every entry point accepts what is read, also where it is the blank transducer: it keeps the rules, and its useful states
-pub read_accepted : (text : List ℕ) → accepted_of (read_of text).table ≡ true
+pub read_accepted : (text : List ℕ) → accepted_of (table_of_reading (read_of text)) ≡ true
 unfolding read_of table_with
-read_accepted text = go (eqb (number_of (outcome_with text (header_of text))) 0)
+read_accepted text = go (outcome_with text (header_of text))
   where
-    go : (x : Bool) → accepted_of (cond x (table_with text (header_of text)) blank_transducer) ≡ true
-    go true = keeping_accepted _ (records_valid text (header_of text) (counted text (header_of text) refl))
-    go false = blank_accepted
+    go : (o : Outcome) → accepted_of (table_of_reading (o ▸ Ok (table_with text (header_of text)))) ≡ true
+    go (Ok passed) = keeping_accepted _ (records_valid text (header_of text) (counted text (header_of text) refl))
+    go (Err r) = blank_accepted

@@ -1,5 +1,6 @@
 -- The first record, `T`.
-use Rattle.std.specs.Prelude.{List, ℕ, get_or}
+use Rattle.std.specs.Prelude.{List, ℕ, ◌≤◌, get_or}
+use Rattle.transducer.specs.Limits.{most_states, most_transitions}
 use Rattle.records.specs.Letters.{letter_t}
 use Rattle.records.specs.Reading.{record_at}
 use Rattle.records.specs.declared.reading.Record.{Record}
@@ -20,3 +21,11 @@ counts_of r =
 -- the record at the beginning of the text
 unfoldable pub header_of : List ℕ → Header
 header_of text = counts_of (record_at text 0 letter_t header_ranges)
+
+-- the counts are in their ranges
+pub record Counted (h : Header) : Type 0 where
+  pub some_state : 1 ≤ h.states
+  pub few_states : h.states ≤ most_states
+  pub few_starts : h.starts ≤ most_states
+  pub few_finals : h.finals ≤ most_states
+  pub few_transitions : h.transitions ≤ most_transitions

@@ -1,26 +1,25 @@
 -- A table file, read whole: the header, the start states, the final states, the transitions, and the end. A refusal does not end the reading: what
 -- follows is read too, and the first refusal is the outcome.
-use Rattle.std.specs.Prelude.{cond, List, ℕ, ◌+◌, ◌*◌, eqb, ltb, length}
-use Rattle.transducer.specs.Refusals.{bytes_follow}
+use Rattle.std.specs.Prelude.{cond, List, ℕ, ◌+◌, ◌*◌, Option, None, Some, Result, Ok, ltb, length}
+use Rattle.transducer.specs.declared.refusals.Refusal.{Refusal}
+use Rattle.transducer.specs.declared.refusals.Refusal.TheVariants.{BytesFollow}
 use Rattle.transducer.specs.StateSet.{no_states}
-use Rattle.transducer.specs.Blank.{blank_transducer}
 use Rattle.transducer.specs.Lines.{keeping}
 use Rattle.transducer.specs.declared.Transducer.{Transducer}
-use Rattle.tablereader.specs.Outcome.{number_of, outcome_for, ◌▸◌}
+use Rattle.tablereader.specs.Outcome.{Outcome, outcome_for, ◌▸◌}
 use Rattle.tablereader.specs.Record.{header_size, state_size}
 use Rattle.records.specs.Letters.{letter_s, letter_f}
 use Rattle.tablereader.specs.Header.{header_of}
 use Rattle.tablereader.specs.States.{states_from}
 use Rattle.tablereader.specs.Transitions.{transitions_from}
-use Rattle.tablereader.specs.declared.Outcome.{Outcome}
-use Rattle.tablereader.specs.declared.Reading.{Reading}
+use Rattle.tablereader.specs.declared.FileRefusal.{FileRefusal}
 use Rattle.tablereader.specs.declared.header.Header.{Header}
 use Rattle.tablereader.specs.declared.states.States.{States}
 use Rattle.tablereader.specs.declared.transitions.Transitions.{Transitions}
 
 -- after the last record, which ends before a place: bytes may follow
-unfoldable pub end_fault_of : List ℕ → ℕ → ℕ
-end_fault_of text at = cond (ltb at (length text)) bytes_follow 0
+unfoldable pub end_fault_of : List ℕ → ℕ → Option Refusal
+end_fault_of text at = cond (ltb at (length text)) (Some BytesFollow) None
 
 -- the count of records of a file with these counts
 abbrev pub record_count : Header → ℕ
@@ -62,10 +61,6 @@ module _ (text : List ℕ) (h : Header) where
   unfoldable pub table_with : Transducer
   table_with = keeping records_with
 
--- a refusal leaves the blank transducer
-abbrev pub reading_of : Outcome → Transducer → Reading
-reading_of outcome table = record { outcome = outcome; table = cond (eqb (number_of outcome) 0) table blank_transducer }
-
--- what is read of a table file
-unfoldable pub read_of : List ℕ → Reading
-read_of text = reading_of (outcome_with text (header_of text)) (table_with text (header_of text))
+-- what is read of a table file: the first refusal, or the transducer
+unfoldable pub read_of : List ℕ → Result Transducer FileRefusal
+read_of text = outcome_with text (header_of text) ▸ Ok (table_with text (header_of text))

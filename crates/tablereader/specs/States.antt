@@ -1,14 +1,12 @@
 -- The records `S` and `F`: one state each, strictly rising.
-use Rattle.std.specs.Prelude.{List, ℕ, zero, suc, ◌+◌, get_or}
+use Rattle.std.specs.Prelude.{List, ℕ, zero, suc, ◌+◌, Ok, get_or}
 use Rattle.records.specs.Reading.{record_at}
 use Rattle.records.specs.declared.reading.Number.{Number}
 use Rattle.records.specs.declared.reading.Record.{Record}
 use Rattle.transducer.specs.StateSet.{no_states, with_state}
 use Rattle.transducer.specs.declared.StateSet.{StateSet}
-use Rattle.tablereader.specs.Outcome.{outcome_for, ◌▸◌}
+use Rattle.tablereader.specs.Outcome.{Outcome, outcome_for, ◌▸◌}
 use Rattle.tablereader.specs.Record.{state_ranges, state_size}
-use Rattle.tablereader.specs.declared.Outcome.{Outcome}
-use Rattle.tablereader.specs.declared.Outcome.TheVariants.{Taken}
 use Rattle.tablereader.specs.declared.states.States.{States}
 
 -- the state that a record gives, with its fault
@@ -29,4 +27,4 @@ read_states_of (suc k) text letter n at low rec outcome states =
 
 -- so many records from a place, the first of them record `first`
 unfoldable pub states_from : ℕ → List ℕ → ℕ → ℕ → ℕ → ℕ → States
-states_from count text letter n at first = read_states_of count text letter n at 0 first Taken no_states
+states_from count text letter n at first = read_states_of count text letter n at 0 first (Ok tt) no_states

@@ -1,5 +1,5 @@
 -- The records `L`: one transition each.
-use Rattle.std.specs.Prelude.{List, ℕ, zero, suc, ◌+◌, ◌≤◌, get_or, drop, set}
+use Rattle.std.specs.Prelude.{List, ℕ, zero, suc, ◌+◌, ◌≤◌, Ok, get_or, drop, set}
 use Rattle.records.specs.Field.{columns}
 use Rattle.records.specs.Letters.{letter_l}
 use Rattle.records.specs.Reading.{range, number_at, record_at}
@@ -9,10 +9,8 @@ use Rattle.transducer.specs.Transition.{firsts}
 use Rattle.transducer.specs.Blank.{blank_transducer}
 use Rattle.transducer.specs.declared.OutputCode.{OutputCode}
 use Rattle.transducer.specs.declared.Transition.{Transition}
-use Rattle.tablereader.specs.Outcome.{outcome_for, ◌▸◌}
+use Rattle.tablereader.specs.Outcome.{Outcome, outcome_for, ◌▸◌}
 use Rattle.tablereader.specs.Record.{transition_ranges}
-use Rattle.tablereader.specs.declared.Outcome.{Outcome}
-use Rattle.tablereader.specs.declared.Outcome.TheVariants.{Taken}
 use Rattle.tablereader.specs.declared.transitions.Transitions.{Transitions}
 
 -- the count of output codes of the record at a place, which stands in its fourth field
@@ -51,4 +49,4 @@ read_transitions_of (suc k) text n at rec i outcome transitions =
 
 -- so many records from a place, the first of them record `first`; the places beyond are those of the blank transducer
 unfoldable pub transitions_from : ℕ → List ℕ → ℕ → ℕ → ℕ → Transitions
-transitions_from count text n at first = read_transitions_of count text n at first 0 Taken blank_transducer.transitions
+transitions_from count text n at first = read_transitions_of count text n at first 0 (Ok tt) blank_transducer.transitions

@@ -5,16 +5,15 @@ ghost use Rattle.tablereader.specs.Record.{transition_size, most_records};
 ghost use Rattle.records.specs.Letters.{most_bytes};
 ghost use Rattle.tablereader.specs.Transitions.{transition_record_of, transition_with, Small, transitions_from};
 
-use crate::Outcome;
+use crate::{FileRefusal, outcome_of};
 use records::field::COLUMNS;
-use records::reading;
-use records::reading::{Range, Record};
+use records::reading::{MOST_FIELDS, Range, Record, number_at, read_record};
 use transducer::{InputCode, OutputCode, Transition, limits};
 
 // The transitions that were read, whether a record was refused, and the place past the last record.
 #[derive(Clone, Copy)]
 pub struct Transitions {
-    pub outcome: Outcome,
+    pub outcome: Result<(), FileRefusal>,
     pub next: usize,
     pub transitions: [Transition; limits::TRANSITIONS],
 }
@@ -25,22 +24,15 @@ pub fn read_transitions(text: &[u8], start: usize, n: u16, count: u16, first: u1
     requires count_le_most_transitions { (count ≤ most_transitions) × (first + count ≤ most_records) }
     ensures { result ≡ transitions_from count text.now n start first }
 {
-    let mut outcome = Outcome::Taken;
-    let none = transducer::blank();
-    let mut transitions = none.transitions;
+    let mut outcome = Ok(());
+    let mut transitions = transducer::blank().transitions;
     let mut at = start;
-    let mut rec = first;
-    let mut i: usize = 0;
-    let mut left = count;
-    while 0 < left {
+    // `i` numbers the record, too.
+    for i in 0..count {
         let one = transition_record(text, at, n);
-        outcome = outcome.then(crate::outcome_of(one.fault, rec));
-        let values = one.values;
-        transitions[i] = transition_of(values);
+        outcome = outcome.and(outcome_of(one.fault, first + i));
+        transitions[i as usize] = transition_of(one.values);
         at = one.next;
-        rec += 1;
-        i += 1;
-        left -= 1;
     }
     Transitions {
         outcome,
@@ -55,45 +47,24 @@ fn transition_record(text: &[u8], at: usize, n: u16) -> Record
     ensures { result ≡ transition_record_of text.now at n }
 {
     let code = limits::CODE as u16;
-    let state = Range {
-        low: 0,
-        high: n - 1,
-        least: 0,
-    };
-    let input = Range {
-        low: 0,
-        high: code,
-        least: 0,
-    };
-    let outputs = Range {
-        low: 0,
-        high: limits::OUTPUTS as u16,
-        least: 0,
-    };
-    let output = Range {
-        low: 1,
-        high: code,
-        least: 0,
-    };
-    let count = reading::number_at(text, at + 1 + 3 * COLUMNS, outputs);
-    let mut ranges = [output; reading::MOST_FIELDS];
-    ranges[0] = state;
-    ranges[1] = state;
-    ranges[2] = input;
-    ranges[3] = outputs;
-    reading::read_record(text, at, b'L', 4 + count.value as usize, ranges)
+    let state = Range::new(0, n - 1);
+    let input = Range::new(0, code);
+    let outputs = Range::new(0, limits::OUTPUTS as u16);
+    let mut ranges = [Range::new(1, code); MOST_FIELDS];
+    ranges[..4].copy_from_slice(&[state, state, input, outputs]);
+    let count = number_at(text, at + 1 + 3 * COLUMNS, outputs);
+    read_record(text, at, b'L', &ranges[..4 + count.value as usize])
 }
 
 // The transition of a record's values. Behind its output codes the values are 0, as the places of the transition are.
-fn transition_of(values: [u16; reading::MOST_FIELDS]) -> Transition
+// Stays beside `line_in` of `held`, which takes bytes: one for both would need a trait for bytes and for numbers that are bytes, longer than the two.
+fn transition_of(values: [u16; MOST_FIELDS]) -> Transition
     requires { Small values }
     ensures { result ≡ transition_with values }
 {
     let mut output = [OutputCode(0); limits::OUTPUTS];
-    let mut j: usize = 0;
-    while j < limits::OUTPUTS {
-        output[j] = OutputCode(values[4 + j] as u8);
-        j += 1;
+    for (j, code) in output.iter_mut().enumerate() {
+        *code = OutputCode(values[4 + j] as u8);
     }
     Transition {
         from: values[0] as u8,

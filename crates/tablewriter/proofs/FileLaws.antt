@@ -1,33 +1,24 @@
 -- Laws of the file's bytes: what is put of one state and of one transition, and the parts that the loops put. Assumes nothing.
-use mathlib.Core.Path.{◌≡◌, refl, ap, ◌∙◌}
+use mathlib.Core.Path.{◌≡◌, refl, sym}
 use mathlib.Core.Bool.{false}
-use mathlib.Core.List.{List, [], ◌∷◌, ◌++◌, flat_map, map-append, append_assoc, append-nil}
-use mathlib.Core.Logic.{⊎_elim}
-use Prim.Native.Nat.{ℕ, zero, suc, ◌+◌, ◌≤◌, ◌<◌}
-use native.Mathlib.Nat.{eq-or-lt_of_le}
+use mathlib.Core.List.{List, [], ◌∷◌, ◌++◌, flat_map, append_assoc, append-nil}
+use Prim.Native.Nat.{ℕ, zero, suc, ◌≤◌, ◌<◌}
 use native.Mathlib.Omega.{arith}
-use lib.ListN.{length, take}
-use lib.Seq.{take-append-le, take_at}
+use lib.ListN.{length, get_or, take}
+use lib.Seq.{get_or-take}
+use Rattle.std.proofs.lemmas.Grind.{flat_map-append}
+use Rattle.std.proofs.lemmas.List.{length-take}
 use Rattle.buffers.proofs.Parts.{below, in_row}
 use Rattle.records.specs.Field.{columns}
 use Rattle.records.specs.Letters.{letter_s, letter_f}
+use Rattle.records.proofs.FilledLaws.{firsts_take}
 use Rattle.records.specs.Record.{record_bytes}
-use Rattle.transducer.specs.Limits.{most_outputs}
 use Rattle.transducer.specs.StateSet.{has, In}
-use Rattle.transducer.specs.Transition.{at, output_at, firsts, written_by, bytes_of}
-use Rattle.transducer.specs.Valid.{code_at}
-use Rattle.transducer.specs.declared.OutputCode.{OutputCode}
+use Rattle.transducer.specs.Transition.{at, outside, firsts, written_by}
 use Rattle.transducer.specs.declared.StateSet.{StateSet}
 use Rattle.transducer.specs.declared.Transition.{Transition}
 use Rattle.transducer.specs.declared.Transducer.{Transducer}
-use Rattle.transducer.proofs.SizeLaws.{length_firsts, length_bytes}
 use Rattle.tablewriter.specs.File.{state_at, states_below, states_of, state_bytes, transition_bytes, transition_bytes_below, header_bytes, write_of}
-
-module _ {A : Type 0} (f : A → List ℕ) where
-  pub flat_map_append : (xs ys : List A) → flat_map f (xs ++ ys) ≡ flat_map f xs ++ flat_map f ys
-  unfolding flat_map
-  flat_map_append [] ys = refl
-  flat_map_append (x ∷ xs) ys = rw (flat_map_append xs ys, append_assoc)
 
 -- ---- states
 
@@ -45,41 +36,28 @@ module _ (letter : ℕ) (s : StateSet) where
   pub states_parts : (n : ℕ) → state_bytes letter (states_below n s) ≡ below (λ q. state_bytes letter (state_at s q)) n
   unfolding state_bytes states_below flat_map below
   states_parts zero = refl
-  states_parts (suc n) = rw (flat_map_append _ (states_below n s) (state_at s n), states_parts n)
+  states_parts (suc n) = rw (flat_map-append (λ q. record_bytes columns letter (q ∷ [])) (states_below n s) (state_at s n), states_parts n)
 
 -- ---- transitions
 
--- a part for each transition
 module _ (t : Transducer) where
+  -- the transitions that are counted, in a row
+  module _ (i : ℕ) (inside : i < length (take t.count t.transitions)) where
+    pub counted_below : i < t.count
+    counted_below = omega (arith, length-take t.count t.transitions)
+
+    pub counted_at : get_or (take t.count t.transitions) i outside ≡ at t i
+    counted_at = get_or-take t.count t.transitions i outside counted_below
+
+  -- a part for each transition
   pub transitions_parts : (n : ℕ) → transition_bytes_below t n ≡ below (λ l. transition_bytes (at t l)) n
   unfolding transition_bytes_below firsts flat_map below
   transitions_parts zero = refl
-  transitions_parts (suc n) = rw (flat_map_append transition_bytes (firsts n (at t)) (at t n ∷ []), transitions_parts n, append-nil)
+  transitions_parts (suc n) = rw (flat_map-append transition_bytes (firsts n (at t)) (at t n ∷ []), transitions_parts n, append-nil)
 
-all_taken : (n : ℕ) (l : List ℕ) → length l ≡ n → take n l ≡ l
-all_taken n l e = rw append-nil at (take_at l [] n e)
-
--- the first of more codes
-take_bytes : (f : ℕ → OutputCode) (m n : ℕ) → n ≤ m → take n (bytes_of (firsts m f)) ≡ bytes_of (firsts n f)
-unfolding firsts
-take_bytes f zero n h = let e : n ≡ 0 = omega arith in rw e
-take_bytes f (suc m) n h =
-    ⊎_elim
-    (λ (e : n ≡ suc m). rw e (all_taken (suc m) (bytes_of (firsts (suc m) f)) (length_bytes (firsts (suc m) f) ∙ length_firsts (suc m) f)))
-    (λ (l : n < suc m).
-    rw (map-append, take-append-le n (bytes_of (firsts m f)) ((f m).0 ∷ []) (omega (arith, length_bytes (firsts m f), length_firsts m f)))
-    (take_bytes f m n (omega arith)))
-    (eq-or-lt_of_le h)
-
--- the numbers of a transition's record, out of its four numbers and all places of its output
-pub transition_numbers : (v : Transition) → v.count ≤ most_outputs
-    → take (4 + v.count)
-    (v.from ∷ v.to ∷ v.input.0 ∷ v.count ∷ code_at v 0 ∷ code_at v 1 ∷ code_at v 2 ∷ code_at v 3 ∷ code_at v 4 ∷ code_at v 5 ∷ code_at v 6 ∷ code_at v 7 ∷ [])
-    ≡ v.from ∷ v.to ∷ v.input.0 ∷ v.count ∷ bytes_of (written_by v)
-unfolding firsts
-transition_numbers v h =
-    let four : 4 + v.count ≡ suc (suc (suc (suc v.count))) = omega arith in
-    rw four (ap (λ l. v.from ∷ v.to ∷ v.input.0 ∷ v.count ∷ l) (take_bytes (output_at v) most_outputs v.count h))
+-- the output codes that are counted are those that the transition writes
+pub codes_taken : (v : Transition) → v.count ≤ length v.output → take v.count v.output ≡ written_by v
+codes_taken v h = sym (firsts_take (record { 0 = 0 }) v.count v.output h)
 
 -- ---- the file
 

@@ -1,11 +1,14 @@
 -- How long the file is. Assumes nothing.
-use mathlib.Core.Path.{◌≡◌, refl, ap, ◌∙◌}
+use mathlib.Core.Path.{◌≡◌, refl, sym, ap, ◌∙◌}
 use mathlib.Core.Bool.{Bool, true, false, cond}
 use mathlib.Core.List.{List, [], ◌∷◌, ◌++◌, flat_map, append-nil}
 use Prim.Native.Nat.{ℕ, zero, suc, ◌+◌, ◌*◌, ◌≤◌}
 use native.Mathlib.Numerals.{add-one}
 use native.Mathlib.Omega.{arith}
-use lib.ListN.{length, length-append, length-map}
+use lib.ListN.{length, get_or, take, length-append, length-map}
+use lib.Seq.{take_all}
+use Rattle.std.specs.List.{count_by, sum_by}
+use Rattle.std.proofs.lemmas.List.Sums.{count_by_more_yes, count_by_more_no, sum_by_more}
 use Rattle.buffers.proofs.Parts.{below}
 use Rattle.records.specs.Field.{columns}
 use Rattle.records.specs.Letters.{letter_t, letter_s, letter_f, letter_l, most_bytes}
@@ -13,12 +16,13 @@ use Rattle.records.specs.Record.{record_bytes}
 use Rattle.records.proofs.RecordBytes.{length_record}
 use Rattle.transducer.specs.Limits.{most_states, most_outputs}
 use Rattle.transducer.specs.StateSet.{has, In}
-use Rattle.transducer.specs.Transition.{at, written_by, bytes_of}
+use Rattle.transducer.specs.Transition.{at, outside, written_by, bytes_of}
 use Rattle.transducer.specs.Valid.{Valid}
 use Rattle.transducer.specs.declared.OutputCode.{OutputCode}
 use Rattle.transducer.specs.declared.StateSet.{StateSet}
 use Rattle.transducer.specs.declared.Transition.{Transition}
 use Rattle.transducer.specs.declared.Transducer.{Transducer}
+use Rattle.transducer.proofs.StateSetLaws.{has_listed}
 use Rattle.transducer.proofs.SizeLaws.{length_written}
 use Rattle.tablewriter.specs.File.{state_at, states_below, states_of, size_of, state_bytes, transition_bytes, transition_bytes_below, outputs_below, all_outputs, header_bytes, write_of}
 use Rattle.tablewriter.proofs.FileLaws.{transitions_parts}
@@ -48,14 +52,35 @@ unfolding states_below
 few_states s zero = omega arith
 few_states s (suc n) = omega (arith, length-append (states_below n s) (state_at s n), one_state s n, few_states s n)
 
+-- the states of a set are counted by its places
+states_counted : (s : StateSet) → length s.member ≡ most_states → (n : ℕ) → n ≤ most_states
+    → length (states_below n s) ≡ count_by (λ (x : Bool). x) (take n s.member)
+unfolding states_below
+states_counted s size zero h = refl
+states_counted s size (suc n) h = go (get_or s.member n false) refl (states_counted s size n (omega arith))
+  where
+    go : (x : Bool) → get_or s.member n false ≡ x → length (states_below n s) ≡ count_by (λ (x : Bool). x) (take n s.member)
+        → length (states_below (suc n) s) ≡ count_by (λ (x : Bool). x) (take (suc n) s.member)
+    go true e before =
+        omega (arith, rw (add-one n) at (size_in s n (has_listed s n size ∙ e)), rw (add-one n) at (count_by_more_yes (λ (x : Bool). x) s.member n false (omega arith) e))
+    go false e before =
+        omega (arith, rw (add-one n) at (size_out s n (has_listed s n size ∙ e)), rw (add-one n) at (count_by_more_no (λ (x : Bool). x) s.member n false (omega arith) e))
+
+pub size_counted : (s : StateSet) → length s.member ≡ most_states → count_by (λ (x : Bool). x) s.member ≡ size_of s
+unfolding size_of
+size_counted s size = sym (states_counted s size most_states (omega arith) ∙ ap (count_by (λ (x : Bool). x)) (take_all most_states s.member (omega arith)))
+
 -- a set has at most 32 states
 pub size_most : (s : StateSet) → size_of s ≤ most_states
 unfolding size_of
 size_most s = few_states s most_states
 
-pub outputs_more : (t : Transducer) (n : ℕ) → outputs_below t (n + 1) ≡ outputs_below t n + (at t n).count
+-- the output codes are summed over the transitions
+pub outputs_summed : (t : Transducer) (n : ℕ) → n ≤ length t.transitions → sum_by (λ (v : Transition). v.count) (take n t.transitions) ≡ outputs_below t n
 unfolding outputs_below
-outputs_more t n = rw add-one
+outputs_summed t zero h = refl
+outputs_summed t (suc n) h =
+    rw add-one at (sum_by_more (λ (v : Transition). v.count) t.transitions n outside h) ∙ ap (λ (k : ℕ). k + (at t n).count) (outputs_summed t n (omega arith))
 
 -- a transition has at most 8 output codes
 pub few_outputs : (t : Transducer) → Valid t → (n : ℕ) → n ≤ t.count → outputs_below t n ≤ most_outputs * n

@@ -4,7 +4,7 @@ ghost use Rattle.std.specs.Prelude.{◌≤◌};
 ghost use Rattle.buffers.specs.Put.{Room, Puts};
 ghost use Rattle.transducer.specs.Limits.{most_outputs};
 ghost use Rattle.transducer.specs.Valid.{Valid};
-ghost use Rattle.tablewriter.specs.File.{state_at, states_of, state_bytes, transition_bytes, transition_bytes_below, header_bytes, write_of};
+ghost use Rattle.tablewriter.specs.File.{states_of, state_bytes, transition_bytes, transition_bytes_below, header_bytes, write_of};
 
 use crate::size;
 use records::writer;
@@ -39,22 +39,12 @@ fn put_states(out: &mut [u8], start: usize, letter: u8, s: StateSet) -> usize
     ensures { Puts out.old start (state_bytes letter (states_of s)) out.new result }
 {
     let mut at = start;
-    for q in 0..limits::STATES {
-        at = put_state(out, at, letter, s, q as u8);
+    for q in 0..limits::STATES as u8 {
+        if s.contains(q) {
+            at = writer::put_record(out, at, writer::COLUMNS, letter, &[q]);
+        }
     }
     at
-}
-
-// The record of the state q, where it is in s; else nothing.
-fn put_state(out: &mut [u8], at: usize, letter: u8, s: StateSet, q: u8) -> usize
-    requires { Room out.old at (state_bytes letter (state_at s q)) }
-    ensures { Puts out.old at (state_bytes letter (state_at s q)) out.new result }
-{
-    if !s.contains(q) {
-        return at;
-    }
-    let numbers = [q];
-    writer::put_byte_record(out, at, writer::COLUMNS, letter, &numbers)
 }
 
 // A record for each transition of t.
@@ -63,11 +53,9 @@ fn put_transitions(out: &mut [u8], start: usize, t: Transducer) -> usize
     requires room { Room out.old start (transition_bytes_below t t.count) }
     ensures { Puts out.old start (transition_bytes_below t t.count) out.new result }
 {
-    let count = t.count as usize;
     let mut at = start;
-    for l in 0..count {
-        let v = t.transitions[l];
-        at = put_transition(out, at, v);
+    for v in &t.transitions[..t.count as usize] {
+        at = put_transition(out, at, *v);
     }
     at
 }
@@ -78,20 +66,7 @@ fn put_transition(out: &mut [u8], at: usize, v: Transition) -> usize
     requires room { Room out.old at (transition_bytes v) }
     ensures { Puts out.old at (transition_bytes v) out.new result }
 {
-    let numbers = [
-        v.from,
-        v.to,
-        v.input.0,
-        v.count,
-        v.output[0].0,
-        v.output[1].0,
-        v.output[2].0,
-        v.output[3].0,
-        v.output[4].0,
-        v.output[5].0,
-        v.output[6].0,
-        v.output[7].0,
-    ];
-    let end = 4 + v.count as usize;
-    writer::put_byte_record(out, at, writer::COLUMNS, b'L', &numbers[0..end])
+    let numbers = [v.from, v.to, v.input.0, v.count];
+    let codes = &v.output[..v.count as usize];
+    writer::put_joined(out, at, writer::COLUMNS, b'L', &numbers, codes)
 }

@@ -25,13 +25,7 @@ pub fn file_length(t: Transducer) -> usize
 pub fn count_states(s: StateSet) -> u16
     ensures { result ≡ size_of s }
 {
-    let mut n: u16 = 0;
-    for q in 0..limits::STATES {
-        if s.contains(q as u8) {
-            n += 1;
-        }
-    }
-    n
+    s.member.iter().filter(|inside| **inside).count() as u16
 }
 
 // How many output codes the transitions of t have.
@@ -39,11 +33,6 @@ fn count_outputs(t: Transducer) -> usize
     requires { Valid t }
     ensures { result ≡ all_outputs t }
 {
-    let count = t.count as usize;
-    let mut n: usize = 0;
-    for l in 0..count {
-        let v = t.transitions[l];
-        n += v.count as usize;
-    }
-    n
+    let transitions = &t.transitions[..t.count as usize];
+    transitions.iter().map(|v| v.count as usize).sum()
 }

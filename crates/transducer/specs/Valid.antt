@@ -73,10 +73,6 @@ line_of n v = used_of n v && codes_of v
 unfoldable pub clear_of : Transition → Bool
 clear_of v = eqb v.from 0 && eqb v.to 0 && eqb v.input.0 0 && eqb v.count 0
 
--- every place of an output holds 0
-unfoldable pub zeros_of : Transition → Bool
-zeros_of v = all_below most_outputs (λ j. eqb (code_at v j) 0)
-
 -- transition l: below the count one in use, from there on one that is not
 unfoldable pub place_of : Transducer → ℕ → Bool
 place_of t l = cond (ltb l t.count) (line_of t.states (at t l)) (clear_of (at t l) && codes_of (at t l))

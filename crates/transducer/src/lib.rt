@@ -13,16 +13,18 @@ pub mod limits;
 pub mod refusals;
 pub mod validity;
 
-// A code of the input alphabet, 1 to limits::CODE; in a transition 0 means that it reads nothing.
-#[derive(Clone, Copy)]
+// A code of the input alphabet, 1 to limits::CODE; in a transition 0 means that it reads nothing. The two kinds of codes stay two types, and not one with
+// a parameter: the alphabets are apart, and have only their size in common.
+#[derive(Clone, Copy, PartialEq, Eq)]
 pub struct InputCode(pub u8);
 
 // A code of the output alphabet, 1 to limits::CODE.
-#[derive(Clone, Copy)]
+#[derive(Clone, Copy, PartialEq, Eq)]
 pub struct OutputCode(pub u8);
 
-// A transition (document 01: a line): it leaves the state `from`, enters `to`, reads `input` and writes the first `count` codes of `output`.
-#[derive(Clone, Copy)]
+// A transition (document 01: a line): it leaves the state `from`, enters `to`, reads `input` and writes the first `count` codes of `output`. Here and below
+// the count stays beside its array: values are of fixed size, and may break each rule (document 01, "Codes and tables").
+#[derive(Clone, Copy, PartialEq, Eq)]
 pub struct Transition {
     pub from: u8,
     pub to: u8,
@@ -32,12 +34,14 @@ pub struct Transition {
 }
 
 // A set of states: member[q] says whether q is in it.
-#[derive(Clone, Copy)]
+#[derive(Clone, Copy, PartialEq, Eq)]
 pub struct StateSet {
     pub member: [bool; limits::STATES],
 }
 
 // A transducer (document 01: a table) with the states 0 to states - 1 and the first `count` of `transitions`. It keeps the set of its useful states.
+// That it keeps the rules stays a clause of those who need it (`Valid`, `accepted_of`), and no type: the value may break them (document 01). So does `Shaped`:
+// of the arrays inside its array a proof needs a loop, which the test of a value has (`sized` of `validity`).
 #[derive(Clone, Copy)]
 pub struct Transducer {
     pub states: u8,
@@ -50,6 +54,7 @@ pub struct Transducer {
 
 impl OutputCode {
     // The same number as an input code: what one transducer writes and the next one reads.
+    // Stays a method, and no `From`: the definition of this name (document 02, job 3) is the only place that joins the two alphabets.
     pub fn as_input(self) -> InputCode
         ensures { result ≡ as_input self }
     {
@@ -68,24 +73,23 @@ impl StateSet {
     }
 
     // Whether the state s is in the set. A number from limits::STATES on is in no set.
+    // This and `with` stay entry points that take the set by value: document 01 (DECISIONS 01.1).
+    #[tactic(auto, unfolding(crate::specs::StateSet::has))]
     pub fn contains(self, s: u8) -> bool
         ensures { result ≡ has self s }
     {
         let place = s as usize;
-        if place < limits::STATES {
-            self.member[place]
-        } else {
-            false
-        }
+        place < limits::STATES && self.member[place]
     }
 
     // The set with the state s added. Adding a number from limits::STATES on gives the same set.
+    #[tactic(auto, unfolding(crate::specs::StateSet::with_state))]
     pub fn with(mut self, s: u8) -> StateSet
         ensures { result ≡ with_state self s }
     {
-        let i = s as usize;
-        if i < limits::STATES {
-            self.member[i] = true;
+        let place = s as usize;
+        if place < limits::STATES {
+            self.member[place] = true;
         }
         self
     }
@@ -107,17 +111,16 @@ impl Transition {
 }
 
 // The blank transducer: one state and nothing else.
+#[tactic(auto, unfolding(crate::specs::Blank::blank_transducer))]
 pub fn blank() -> Transducer
     ensures { result ≡ blank_transducer }
 {
-    let v = Transition::clear();
-    let none = StateSet::empty();
     Transducer {
         states: 1,
-        starts: none,
-        finals: none,
+        starts: StateSet::empty(),
+        finals: StateSet::empty(),
         count: 0,
-        transitions: [v; limits::TRANSITIONS],
-        useful: none,
+        transitions: [Transition::clear(); limits::TRANSITIONS],
+        useful: StateSet::empty(),
     }
 }

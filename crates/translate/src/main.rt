@@ -9,32 +9,27 @@ use listing::TRANSLATION_BYTES;
 use report::{READ_BYTES, READ_CODES};
 use std::fs::File;
 use std::io::Print;
-use streams::Input;
 
 // Reads the beginning of the file `table`; a file that can't be opened counts as empty.
-fn read_table<P: Print>(rt: &HostRuntime, errors: &P, text: &mut [u8]) -> Input
+fn read_table<P: Print>(rt: &HostRuntime, errors: &P, text: &mut [u8]) -> Option<usize>
     ensures { Told result text.new }
 {
     match File::open(rt, "table") {
         Ok(mut file) => streams::read(&mut file, errors, b"translate: table", text),
-        Err(_) => Input::Got(0),
+        Err(_) => Some(0),
     }
 }
 
 fn main(rt: HostRuntime) {
     let errors = rt.stderr();
     let mut text = [0u8; READ_BYTES];
-    let Input::Got(got) = read_table(&rt, &errors, &mut text) else {
+    let Some(got) = read_table(&rt, &errors, &mut text) else {
         return;
     };
     let mut word = rt.stdin();
     let mut input = [0u8; READ_CODES];
-    let Input::Got(codes) = streams::read(
-        &mut word,
-        &errors,
-        b"translate: standard input",
-        &mut input,
-    ) else {
+    let Some(codes) = streams::read(&mut word, &errors, b"translate: standard input", &mut input)
+    else {
         return;
     };
     let mut out = [0u8; TRANSLATION_BYTES];

@@ -7,17 +7,18 @@ use Prim.Native.Nat.{ℕ, ◌≤◌}
 use native.Mathlib.Decide.{ℕ_discrete}
 use native.Mathlib.Omega.{arith}
 use lib.ListN.{length}
+use Rattle.std.specs.Prelude.{Result}
 use Rattle.transducer.specs.Refusals as refusal
+use Rattle.transducer.specs.Refusals.{number_of}
+use Rattle.transducer.specs.declared.refusals.Refusal.{Refusal}
 use Rattle.transducer.specs.Accepted.{accepted_of}
 use Rattle.transducer.specs.Paths.{Functional}
 use Rattle.transducer.specs.Alike.{Alike}
 use Rattle.transducer.specs.declared.Transducer.{Transducer}
 use Rattle.transducer.proofs.AlikeLaws.{alike_equivalent}
 use Rattle.wordsearch.specs.Limits.{most_written}
-use Rattle.translator.specs.Numbers.{number_of}
 use Rattle.translator.specs.Words.{refusal_of}
 use Rattle.translator.specs.Translated.{Outcome, Translated, Same}
-use Rattle.translator.specs.declared.Translation.{Translation}
 use Rattle.translator.proofs.TranslationLaws.{translated_same, translated_determined}
 
 module _ {t t' : Transducer} (alike : Alike t t') (valid : accepted_of t ≡ true) (valid' : accepted_of t' ≡ true) where
@@ -26,7 +27,7 @@ module _ {t t' : Transducer} (alike : Alike t t') (valid : accepted_of t ≡ tru
   same_refusals input = rw (valid, valid')
 
   -- what meets the contract for one meets it for the other
-  pub alike_translated : {input out₀ out : List ℕ} {r : Translation} → Translated t' input out₀ out r → Translated t input out₀ out r
+  pub alike_translated : {input out₀ out : List ℕ} {r : Result ℕ Refusal} → Translated t' input out₀ out r → Translated t input out₀ out r
   alike_translated {input} {out₀} {out} {r} h =
       record {
         refused = rw (same_refusals input) h.refused;
@@ -39,7 +40,7 @@ module _ {t t' : Transducer} (alike : Alike t t') (valid : accepted_of t ≡ tru
       outcome (Outcome.unread never n) = Outcome.unread (λ y a. never y ((alike_equivalent alike _ y).0 a)) n
       outcome (Outcome.short {y = y} a few long n) = Outcome.short ((alike_equivalent alike _ y).1 a) few long n
 
-  module _ {input out₀ out out₀' out' : List ℕ} {r r' : Translation}
+  module _ {input out₀ out out₀' out' : List ℕ} {r r' : Result ℕ Refusal}
       (h : Translated t input out₀ out r) (h' : Translated t' input out₀' out' r')
     where
       -- 8, 9, 10 and 11 agree, functional or not
@@ -62,6 +63,6 @@ module _ {t t' : Transducer} (alike : Alike t t') (valid : accepted_of t ≡ tru
       alike_translates f room room' = translated_same f (λ n few k. omega arith) (λ n few k. omega arith) h (alike_translated h')
 
   -- from one buffer, of whatever size, the whole buffer is the same too
-  pub alike_determined : {input out₀ out out' : List ℕ} {r r' : Translation} → Functional t
+  pub alike_determined : {input out₀ out out' : List ℕ} {r r' : Result ℕ Refusal} → Functional t
       → Translated t input out₀ out r → Translated t' input out₀ out' r' → (r ≡ r') × (out ≡ out')
   alike_determined f h h' = translated_determined f h (alike_translated h')

@@ -4,4 +4,3 @@ pub mod BufferLaws
 pub mod RefusalLaws
 pub mod RefusedExactly
 pub mod TranslationLaws
-pub mod FreshLists

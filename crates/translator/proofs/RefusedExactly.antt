@@ -8,17 +8,18 @@ use native.Mathlib.Decide.{ℕ_discrete}
 use native.Mathlib.Omega.{arith}
 use lib.Dec.{leb}
 use lib.ListN.{length}
+use Rattle.std.specs.Prelude.{Result}
 use Rattle.transducer.specs.Refusals as refusal
+use Rattle.transducer.specs.Refusals.{number_of}
+use Rattle.transducer.specs.declared.refusals.Refusal.{Refusal}
 use Rattle.transducer.specs.Transition.{OutputWord, word_of}
 use Rattle.transducer.specs.Codes.{all_codes}
 use Rattle.transducer.specs.Accepted.{accepted_of}
 use Rattle.transducer.specs.Paths.{Relates, Functional}
 use Rattle.transducer.specs.declared.Transducer.{Transducer}
 use Rattle.wordsearch.specs.Limits.{most_word, most_written}
-use Rattle.translator.specs.Numbers.{number_of}
 use Rattle.translator.specs.Words.{refusal_of}
 use Rattle.translator.specs.Translated.{Outcome, Translated}
-use Rattle.translator.specs.declared.Translation.{Translation}
 
 -- ---- 7 is never given with 65,528 places
 
@@ -33,7 +34,7 @@ refusal_no_seven t input = go (accepted_of t) (leb (length input) most_word) (al
     go true true false e = omega arith
     go true true true e = omega arith
 
-module _ {t : Transducer} {input out₀ out : List ℕ} {r : Translation} where
+module _ {t : Transducer} {input out₀ out : List ℕ} {r : Result ℕ Refusal} where
   pub never_short : most_written ≤ length out₀ → Translated t input out₀ out r → number_of r ≢ refusal.too_short_of
   never_short room h e = go (ℕ_discrete (refusal_of t input) 0)
     where
@@ -48,7 +49,7 @@ module _ {t : Transducer} {input out₀ out : List ℕ} {r : Translation} where
 
 -- ---- which refusal is given
 
-module _ {t : Transducer} {input out₀ out : List ℕ} {r : Translation} (h : Translated t input out₀ out r) where
+module _ {t : Transducer} {input out₀ out : List ℕ} {r : Result ℕ Refusal} (h : Translated t input out₀ out r) where
   -- 8, 9 and 10 are given exactly where the definition says so, whatever the transducer is
   pub refused_exactly : (n : ℕ) → refusal.invalid ≤ n → n ≤ refusal.no_input_code → (number_of r ≡ n) ↔ (refusal_of t input ≡ n)
   refused_exactly n low high = (λ e. go e (ℕ_discrete (refusal_of t input) 0), λ e. h.refused (λ z. omega arith) ∙ e)

@@ -1,16 +1,17 @@
 -- The translator's contract: what it answers and what it leaves in the buffer (document 01, "The translator").
-use Rattle.std.specs.Prelude.{◌≡◌, List, ◌≢◌, ℕ, ◌≤◌, ◌<◌, length}
+use Rattle.std.specs.Prelude.{◌≡◌, List, ◌≢◌, ℕ, ◌≤◌, ◌<◌, length, Result}
 use Rattle.buffers.specs.Put.{put}
 use Rattle.transducer.specs.Refusals as refusal
+use Rattle.transducer.specs.Refusals.{number_of}
 use Rattle.transducer.specs.Transition.{OutputWord, word_of, bytes_of}
 use Rattle.transducer.specs.Paths.{Relates}
 use Rattle.transducer.specs.declared.Transducer.{Transducer}
+use Rattle.transducer.specs.declared.refusals.Refusal.{Refusal}
 use Rattle.wordsearch.specs.Limits.{most_written}
-use Rattle.translator.specs.Numbers.{number_of, length_of}
+use Rattle.translator.specs.Numbers.{length_of}
 use Rattle.translator.specs.Words.{refusal_of}
-use Rattle.translator.specs.declared.Translation.{Translation}
 
-module _ (t : Transducer) (input out₀ out : List ℕ) (r : Translation) where
+module _ (t : Transducer) (input out₀ out : List ℕ) (r : Result ℕ Refusal) where
   -- the answer for a word that is not refused
   pub data Outcome : Type 0 where
     -- the output y of an accepting path that reads the word stands at the front of the buffer; the places beyond hold what they held
@@ -31,7 +32,7 @@ module _ (t : Transducer) (input out₀ out : List ℕ) (r : Translation) where
     pub unchanged : number_of r ≢ 0 → out ≡ out₀
 
 -- two answers are the same, and both buffers begin with the same bytes; the places beyond hold what they held
-pub record Same (out₀ out out₀' out' : List ℕ) (r r' : Translation) : Type 0 where
+pub record Same (out₀ out out₀' out' : List ℕ) (r r' : Result ℕ Refusal) : Type 0 where
   pub answer : r ≡ r'
   pub bytes : List ℕ
   pub size : length_of r ≡ length bytes

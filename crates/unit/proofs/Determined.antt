@@ -10,21 +10,20 @@ use Rattle.transducer.specs.Paths.{Functional}
 use Rattle.transducer.specs.declared.Transducer.{Transducer}
 use Rattle.transducer.proofs.Bools.{same_flag}
 use Rattle.witness.specs.Showing.{Buffers}
-use Rattle.functionality.specs.Decided as decision
-use Rattle.functionality.specs.Decided.{verdict_of, Agree}
+use Rattle.std.specs.Prelude.{Result}
+use Rattle.transducer.specs.Refusals.{number_of}
+use Rattle.transducer.specs.declared.refusals.Refusal.{Refusal}
+use Rattle.functionality.specs.Decided.{verdict_of, useful_of, Agree}
 use Rattle.functionality.specs.declared.Verdict.{Verdict}
 use Rattle.functionality.proofs.DecidedLaws.{refused_zero, decided_determined}
-use Rattle.useful.specs.UsefulStates as states
-use Rattle.useful.specs.declared.UsefulStates.{UsefulStates}
+use Rattle.useful.specs.UsefulStates.{states_of}
 use Rattle.useful.proofs.Determined.{useful_states_determined}
-use Rattle.pairs.specs.UsefulPairs as pairs
-use Rattle.pairs.specs.declared.UsefulPairs.{UsefulPairs}
+use Rattle.pairs.specs.UsefulPairs.{found_of}
 use Rattle.pairs.proofs.PairSetLaws.{useful_pairs_determined}
 use Rattle.translator.specs.Numbers as answer
 use Rattle.translator.proofs.TranslationLaws.{translated_determined}
 use Rattle.edits.specs.Edits.{Edit}
-use Rattle.series.specs.Join as join
-use Rattle.series.specs.declared.Joined.{Joined}
+use Rattle.series.specs.Join.{joined_of}
 use Rattle.series.proofs.SeriesLaws.{joined_determined}
 use Rattle.answers.specs.Answers.{numbers_of, Given, Flagged, HeldIn}
 use Rattle.answers.specs.Answers.{verdict_answer, translate_answer, accepts_answer, pairs_answer, difference_answer, write_answer}
@@ -71,7 +70,7 @@ module _ {t : Transducer} where
       → (r₁ ≡ r₂) × (out₁ ≡ out₂) × (a₁ ≡ a₂)
   translates_same {out₂ = out₂} {a} {a₁} {r₁ = r₁} functional h k =
       let same = translated_determined functional h.translated k.translated in
-      let given = given_same (ap answer.number_of same.0) (ap (λ q. answer.length_of q ∷ []) same.0) h.given k.given in
+      let given = given_same (ap number_of same.0) (ap (λ q. answer.length_of q ∷ []) same.0) h.given k.given in
       (given.0, same.1, given.1)
 
   tests_same : {input output a a₁ a₂ : List ℕ} {r₁ r₂ : ℕ} → Tests t input output a a₁ r₁ → Tests t input output a a₂ r₂ → (r₁ ≡ r₂) × (a₁ ≡ a₂)
@@ -93,16 +92,14 @@ module _ {t : Transducer} where
       → (r₁ ≡ r₂) × (flags₁ ≡ flags₂)
   states_same h k =
       let same = useful_states_determined t h.found k.found h.useful k.useful in
-      flags_same (ap (λ (u : UsefulStates). states.number_of u.outcome) same) (ap (λ (u : UsefulStates). u.states.member) same) h.flagged k.flagged
+      flags_same (ap number_of same) (ap (λ u. (states_of u).member) same) h.flagged k.flagged
 
   pairs_same : {flags flags₁ flags₂ a a₁ a₂ : List ℕ} {r₁ r₂ : ℕ} → FindsPairs t flags flags₁ a a₁ r₁ → FindsPairs t flags flags₂ a a₂ r₂
       → (r₁ ≡ r₂) × (flags₁ ≡ flags₂) × (a₁ ≡ a₂)
   pairs_same h k =
       let same = useful_pairs_determined h.useful k.useful in
-      let shown =
-      flags_same (ap (λ (u : UsefulPairs). pairs.number_of u.outcome) same) (ap (λ (u : UsefulPairs). u.set.member) same) h.flagged k.flagged
-      in
-      let counted = given_same shown.0 (ap (λ (u : UsefulPairs). u.count ∷ []) same) h.given k.given in
+      let shown = flags_same (ap number_of same) (ap (λ u. (found_of u).set.member) same) h.flagged k.flagged in
+      let counted = given_same shown.0 (ap (λ u. (found_of u).count ∷ []) same) h.given k.given in
       (shown.0, shown.1, counted.1)
 
   edits_same : {e : Edit} {h h₁ h₂ : List ℕ} {r₁ r₂ : ℕ} → Edits t e h h₁ r₁ → Edits t e h h₂ r₂ → (r₁ ≡ r₂) × (h₁ ≡ h₂)
@@ -113,16 +110,16 @@ joins_same : {first second : Transducer} {m m₁ m₂ : List ℕ} {r₁ r₂ : �
     → (r₁ ≡ r₂) × (m₁ ≡ m₂)
 joins_same h k =
     let same = joined_determined h.joins k.joins in
-    held_same (ap (λ (j : Joined). join.number_of j.outcome) same) (ap (λ (j : Joined). j.table) same) h.held k.held
+    held_same (ap number_of same) (ap joined_of same) h.held k.held
 
 -- ---- the verdict
 
 -- the first two numbers of the answer
-pub front_two : (a : List ℕ) (v : Verdict) → take 2 (put a 0 (numbers_of v)) ≡ verdict_of v.outcome ∷ v.useful ∷ []
+pub front_two : (a : List ℕ) (v : Result Verdict Refusal) → take 2 (put a 0 (numbers_of v)) ≡ verdict_of v ∷ useful_of v ∷ []
 unfolding put numbers_of
 front_two a v = refl
 
-pub front_one : (a : List ℕ) (v : Verdict) → get_or (put a 0 (numbers_of v)) 0 0 ≡ verdict_of v.outcome
+pub front_one : (a : List ℕ) (v : Result Verdict Refusal) → get_or (put a 0 (numbers_of v)) 0 0 ≡ verdict_of v
 unfolding numbers_of
 front_one a v = front a _ _
 
@@ -134,11 +131,11 @@ decides_same {b₁ = b₁} {b₂} {a} {a₁} {a₂} {r₁} {r₂} h k = either r
     agree = decided_determined h.decided k.decided
 
     same : r₁ ≡ r₂
-    same = h.given.code ∙ ap decision.number_of agree.outcome ∙ sym k.given.code
+    same = h.given.code ∙ agree.number ∙ sym k.given.code
 
     refused : r₁ ≢ 0 → SameVerdict b₁ b₂ a₁ a₂ r₁ r₂
     refused n =
-        let single = refused_zero h.verdict.outcome (λ z. n (h.given.code ∙ z)) in
+        let single = refused_zero h.verdict (λ z. n (h.given.code ∙ z)) in
         let lists = h.given.refused n ∙ sym (k.given.refused (λ z. n (same ∙ z))) in
         record { returned = same; front = ap (take 2) lists; unless_split = λ _. ((agree.unless_split single).1, lists) }
 
@@ -150,7 +147,7 @@ decides_same {b₁ = b₁} {b₂} {a} {a₁} {a₂} {r₁} {r₂} h k = either r
           returned = same;
           front =
               ap (take 2) one ∙ front_two a h.verdict
-              ∙ (λ i. verdict_of (agree.outcome i) ∷ agree.useful i ∷ [])
+              ∙ (λ i. agree.verdict i ∷ agree.useful i ∷ [])
               ∙ sym (ap (take 2) other ∙ front_two a k.verdict);
           unless_split = λ first.
               let whole = agree.unless_split (sym (ap (λ l. get_or l 0 0) one ∙ front_one a h.verdict) ∙ first z) in

@@ -16,10 +16,11 @@ use Rattle.transducer.specs.Accepted.{accepted_of}
 use Rattle.transducer.specs.Alike.{Alike}
 use Rattle.transducer.specs.declared.Transducer.{Transducer}
 use Rattle.transducer.proofs.AcceptedLaws.{accepted_kept}
+use Rattle.std.specs.Prelude.{Ok}
+use Rattle.transducer.specs.Refusals.{number_of}
 use Rattle.tablereader.specs.Outcome as outcome
+use Rattle.tablereader.specs.Outcome.{table_of_reading}
 use Rattle.tablereader.specs.Reader.{read_of}
-use Rattle.tablereader.specs.declared.Reading.{Reading}
-use Rattle.tablereader.proofs.Outcomes.{taken_number}
 use Rattle.tablereader.proofs.ReadLaws.{read_shaped}
 use Rattle.tablereader.proofs.Validity.{read_accepted}
 use Rattle.tablewriter.specs.File.{write_of}
@@ -29,18 +30,14 @@ use Rattle.tablefile.specs.RoundTrips.{taken_as}
 use Rattle.tablefile.proofs.RoundTrips.{round_trips}
 use Rattle.held.specs.Held.{held_size, held_of, table_in_of}
 use Rattle.held.proofs.BytesLaws.{held_exactly, held_shaped, put_held}
-use Rattle.useful.specs.UsefulStates as states
-use Rattle.useful.specs.UsefulStates.{UsefulStatesOf}
-use Rattle.useful.specs.declared.Outcome.TheVariants.{Found}
-use Rattle.useful.specs.declared.UsefulStates.{UsefulStates}
+use Rattle.useful.specs.UsefulStates.{states_of, UsefulStatesOf}
 use Rattle.useful.proofs.Determined.{useful_states_determined}
 use Rattle.edits.specs.Edits as edit
-use Rattle.edits.specs.Edits.{Edit}
+use Rattle.edits.specs.Edits.{Edit, edited_of}
 use Rattle.edits.specs.Rows as row
 use Rattle.edits.specs.Rows.{Calls}
 use Rattle.edits.proofs.RowLaws.{one_accepted, in_a_row}
-use Rattle.series.specs.Join as join
-use Rattle.series.specs.Join.{JoinedOf}
+use Rattle.series.specs.Join.{joined_of, JoinedOf}
 use Rattle.series.proofs.SeriesLaws.{in_series, joined_shaped}
 use Rattle.series.proofs.AlikeLaws.{alike_joins}
 use Rattle.panel.specs.Makings.{Looks}
@@ -88,7 +85,7 @@ file_again : (f : List ℕ) {t : Transducer} {out out' a a' : List ℕ} {s : ℕ
 file_again f {out = out} {out'} {a} {a'} {s} taken table held room =
     let writes : Writes (table_of f) out out' a a' s = rw table at held in
     let again =
-    round_trips.read_then_write f out out' (read_of f) writes.writing refl (taken_number (read_of f).outcome taken) writes.wrote room
+    round_trips.read_then_write f out out' (read_of f) writes.writing refl taken writes.wrote room
     in
     let none : s ≡ 0 = writes.given.code ∙ again.number in
     (none, again.buffer, writes.given.answered none ∙ ap (λ l. put a 0 (l ∷ [])) again.count)
@@ -109,29 +106,29 @@ module _ {h out out' a a' : List ℕ} {r : ℕ} (g : WriteGiven h out out' a a' 
   pub write_then_read : {m m' : List ℕ} {s : ℕ} → ReadGiven (take (get_or a' 0 0) out') m m' s → Holding m → (s ≡ 0) × (table_in_of m' ≡ table_in_of h)
   write_then_read {m} {m'} {s} k long =
       let text = take (get_or a' 0 0) out' in
-      let taken : Taken text = ap (λ (x : Reading). outcome.number_of x.outcome) written_read in
+      let taken : Taken text = ap outcome.number_of written_read in
       let none : s ≡ 0 = (k.call.answers long).code ∙ taken_code text taken in
-      (none, read_table k none ∙ ap (λ (x : Reading). x.table) written_read)
+      (none, read_table k none ∙ ap table_of_reading written_read)
 
 -- ---- an edit
 
 module _ {h h' : List ℕ} {e : Edit} {r : ℕ} (long : Holding h) (g : Edits (table_in_of h) e h h' r) where
   -- a refused one hands the table back
-  handed_back : r ≢ 0 → g.edited.table ≡ table_in_of h
+  handed_back : r ≢ 0 → edited_of (table_in_of h) g.edited ≡ table_in_of h
   handed_back n =
       let refused : edit.refusal_of (table_in_of h) e ≢ 0 = λ z. n (g.held.code ∙ g.by.number ∙ z) in
       g.by.table ∙ rw (ne_eqb _ 0 refused) refl
 
-  pub edit_table : table_in_of h' ≡ g.edited.table
+  pub edit_table : table_in_of h' ≡ edited_of (table_in_of h) g.edited
   edit_table =
-      either r (λ z. rw (g.held.held z) (put_held g.edited.table h g.by.shaped))
+      either r (λ z. rw (g.held.held z) (put_held (edited_of (table_in_of h) g.edited) h g.by.shaped))
       (λ n. ap table_in_of (g.held.refused n) ∙ sym (handed_back n))
 
   edit_behind : drop held_size h' ≡ drop held_size h
-  edit_behind = either r (λ z. rw (g.held.held z) (put_behind g.edited.table h g.by.shaped)) (λ n. ap (drop held_size) (g.held.refused n))
+  edit_behind = either r (λ z. rw (g.held.held z) (put_behind (edited_of (table_in_of h) g.edited) h g.by.shaped)) (λ n. ap (drop held_size) (g.held.refused n))
 
   pub edit_holding : Holding h'
-  edit_holding = either r (λ z. rw (g.held.held z) (put_holding g.edited.table h g.by.shaped long)) (λ n. rw (g.held.refused n) long)
+  edit_holding = either r (λ z. rw (g.held.held z) (put_holding (edited_of (table_in_of h) g.edited) h g.by.shaped long)) (λ n. rw (g.held.refused n) long)
 
 -- any number of them
 record InMemory (h : List ℕ) (edits : List Edit) (returned h' : List ℕ) : Type 0 where
@@ -141,7 +138,7 @@ record InMemory (h : List ℕ) (edits : List Edit) (returned h' : List ℕ) : Ty
 one_more : {h g h' : List ℕ} {e : Edit} {edits : List Edit} {r : ℕ} {returned : List ℕ} → Holding h → Edits (table_in_of h) e h g r
     → InMemory g edits returned h' → InMemory h (e ∷ edits) (r ∷ returned) h'
 one_more {h} {h' = h'} {edits = edits} {returned = returned} long g more =
-    let tables : Calls g.edited.table edits returned (table_in_of h') = rw (edit_table long g) at more.calls in
+    let tables : Calls (edited_of (table_in_of h) g.edited) edits returned (table_in_of h') = rw (edit_table long g) at more.calls in
     record { calls = row.call g.by g.held.code tables; behind = more.behind ∙ edit_behind long g }
 
 in_memory : {h h' : List ℕ} {edits : List Edit} {returned : List ℕ} → Holding h → EditCalls h edits returned h' → InMemory h edits returned h'
@@ -169,11 +166,11 @@ module _ {h g m m' : List ℕ} {r : ℕ} (k : JoinGiven h g m m' r) (z : r ≡ 0
   pub joins_done : Joins (table_in_of h) (table_in_of g) m m' r
   joins_done = done k.call (three_holding h g m) z
 
-  made : join.number_of joins_done.joined.outcome ≡ 0
+  made : number_of joins_done.joined ≡ 0
   made = sym joins_done.held.code ∙ z
 
-  pub joined_table : table_in_of m' ≡ joins_done.joined.table
-  joined_table = ap table_in_of (joins_done.held.held z) ∙ put_held joins_done.joined.table m (joined_shaped joins_done.joins (held_shaped g))
+  pub joined_table : table_in_of m' ≡ joined_of joins_done.joined
+  joined_table = ap table_in_of (joins_done.held.held z) ∙ put_held (joined_of joins_done.joined) m (joined_shaped joins_done.joins (held_shaped g))
 
   pub series_of : SeriesOf (table_in_of h) (table_in_of g) (table_in_of m')
   series_of =
@@ -223,7 +220,7 @@ looks {h} m =
     record { useful = accepted_kept (table_in_of h) accepted; accepted = accepted; shaped = held_shaped h }
 
 -- the set that is kept is what `useful_states` finds
-kept_found : (t : Transducer) → accepted_of t ≡ true → Shaped t → UsefulStatesOf t (record { outcome = Found; states = t.useful })
+kept_found : (t : Transducer) → accepted_of t ≡ true → Shaped t → UsefulStatesOf t (Ok t.useful)
 kept_found t accepted shaped =
     record {
       number = rw accepted refl;
@@ -241,4 +238,4 @@ look_shows {h} {flags} {flags₁} {flags₂} {r₁} {r₂} m one other =
     shown look found =
         let kept = kept_found (table_in_of h) (made_accepted m) (held_shaped h) in
         let same = useful_states_determined (table_in_of h) _ found.found kept found.useful in
-        flags_same (ap (λ (u : UsefulStates). states.number_of u.outcome) same) (ap (λ (u : UsefulStates). u.states.member) same) look found.flagged
+        flags_same (ap number_of same) (ap (λ u. (states_of u).member) same) look found.flagged

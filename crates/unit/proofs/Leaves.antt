@@ -7,13 +7,13 @@ use Prim.Native.Nat.{ℕ}
 use lib.Dec.{leb}
 use lib.ListN.{length}
 use Rattle.buffers.specs.Put.{put}
-use Rattle.transducer.specs.Refusals.{invalid, too_short_of}
+use Rattle.std.specs.Prelude.{Result}
+use Rattle.transducer.specs.Refusals.{invalid, too_short_of, number_of}
+use Rattle.transducer.specs.declared.refusals.Refusal.{Refusal}
 use Rattle.transducer.specs.Accepted.{accepted_of}
 use Rattle.transducer.specs.declared.Transducer.{Transducer}
 use Rattle.tablewriter.specs.File.{write_of}
-use Rattle.tablewriter.specs.Writing as file
 use Rattle.tablewriter.specs.Writing.{in_case, Wrote}
-use Rattle.tablewriter.specs.declared.Writing.{Writing}
 use Rattle.functionality.proofs.DecidedLaws.{refused_zero}
 use Rattle.answers.specs.Answers.{verdict_answer, translate_answer, accepts_answer, pairs_answer, difference_answer, write_answer}
 use Rattle.unit.specs.Calls.{Call}
@@ -21,7 +21,7 @@ use Rattle.unit.specs.Laws.{RefusalLeaves}
 use Rattle.unit.proofs.CallLaws.{OrNot, holding, lent, line_lent, answer_lent, three_holding}
 
 -- a writing that is refused leaves the buffer
-wrote_leaves : {t : Transducer} {out out' : List ℕ} {w : Writing} → Wrote t out out' w → file.number_of w ≢ 0 → out' ≡ out
+wrote_leaves : {t : Transducer} {out out' : List ℕ} {w : Result ℕ Refusal} → Wrote t out out' w → number_of w ≢ 0 → out' ≡ out
 unfolding in_case
 wrote_leaves {t} {out} h n = h.buffer ∙ go (accepted_of t) (leb (length (write_of t)) (length out)) (λ z. n (h.number ∙ z))
   where
@@ -43,7 +43,7 @@ refusal_leaves =
           leaves g.call (lent write_answer a h) (λ k. (wrote_leaves k.wrote (λ z. n (k.given.code ∙ z)), k.given.refused n));
       verdict = λ {h} {a} g n.
           leaves g.call (lent verdict_answer a h)
-          (λ k. ((k.decided.unchanged (refused_zero k.verdict.outcome (λ z. n (k.given.code ∙ z)))).0, k.given.refused n));
+          (λ k. ((k.decided.unchanged (refused_zero k.verdict (λ z. n (k.given.code ∙ z)))).0, k.given.refused n));
       translation = λ {h} {a = a} g n.
           leaves g.call (lent translate_answer a h) (λ k. (k.translated.unchanged (λ z. n (k.given.code ∙ z)), k.given.refused n));
       accepts = λ {h} {a = a} g n. leaves g.call (lent accepts_answer a h) (λ k. k.given.refused n);

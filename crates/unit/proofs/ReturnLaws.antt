@@ -10,8 +10,11 @@ use native.Mathlib.Omega.{arith}
 use lib.Dec.{leb, ltb}
 use lib.ListN.{length}
 use Rattle.transducer.specs.Limits.{most_transitions}
+use Rattle.std.specs.Prelude.{Result, Ok, Err}
 use Rattle.transducer.specs.Refusals as refusal
-use Rattle.transducer.specs.Refusals.{invalid, too_short_of, list_too_short, first_of}
+use Rattle.transducer.specs.declared.refusals.Refusal.{Refusal}
+use Rattle.transducer.specs.declared.refusals.Refusal.TheVariants.{Ended, WrongByte, NotANumber, OutOfRange, NotRising, BytesFollow, TooShort, Invalid, WordTooLong, NoInputCode, Unread, WordsTooLong, NoOutputCode, MoreThanOneCode, ManyPairs, ManyTransitions, NoSuchTransition, WrongTransition, ListTooShort}
+use Rattle.transducer.specs.Refusals.{invalid, too_short_of, list_too_short, refusal_number, number_of as number, first_of}
 use Rattle.transducer.specs.Valid.{line_of}
 use Rattle.transducer.specs.Codes.{all_codes}
 use Rattle.transducer.specs.Accepted.{accepted_of}
@@ -20,12 +23,11 @@ use Rattle.transducer.specs.declared.Transducer.{Transducer}
 use Rattle.transducer.proofs.Bools.{and_left, and_right}
 use Rattle.transducer.proofs.RefusalLaws.{first_has}
 use Rattle.tablereader.specs.Reader.{read_of}
-use Rattle.tablereader.proofs.Outcomes.{taken_record, number_low}
-use Rattle.tablereader.proofs.ReadLaws.{read_record_lem}
+use Rattle.tablereader.proofs.Outcomes.{taken_record}
+use Rattle.tablereader.proofs.ReadLaws.{read_record_lem, number_low}
 use Rattle.tablewriter.specs.File.{write_of}
 use Rattle.tablewriter.specs.Writing.{in_case}
 use Rattle.wordsearch.specs.Limits.{most_word}
-use Rattle.translator.specs.Numbers as answer
 use Rattle.translator.specs.Words as translated
 use Rattle.translator.specs.Translated.{Outcome, Translated}
 use Rattle.wordtest.specs.Words as word
@@ -35,8 +37,6 @@ use Rattle.witness.specs.Showing.{Buffers}
 use Rattle.edits.specs.Edits as edit
 use Rattle.edits.specs.Edits.{Edit, append, remove, line_refusal}
 use Rattle.series.specs.Join as join
-use Rattle.series.specs.declared.Outcome as series
-use Rattle.series.specs.declared.Outcome.TheVariants.{Made, Invalid, MoreThanOneCode, ManyPairs, ManyTransitions}
 use Rattle.series.proofs.RefusalLaws.{not_invalid}
 use Rattle.held.specs.Held.{table_in_of}
 use Rattle.engine.specs.Engine.{number_of, record_of, Taken}
@@ -60,16 +60,16 @@ record_told number at h = omega arith
 
 file_low : (f : List ℕ) → file_code f < 2147483648
 unfolding refusal_code
-file_low f = omega (arith, number_low (read_of f).outcome, read_record_lem f)
+file_low f = omega (arith, number_low f, read_record_lem f)
 
 file_not_8 : (f : List ℕ) → file_code f % 65536 ≢ invalid
 file_not_8 f e =
-    let low = number_low (read_of f).outcome in
+    let low = number_low f in
     omega (arith, low, number_told (number_of f) (record_of f) (omega (arith, low)), e)
 
 pub taken_code : (f : List ℕ) → Taken f → file_code f ≡ 0
 unfolding refusal_code
-taken_code f t = omega (arith, t, taken_record (read_of f).outcome t)
+taken_code f t = omega (arith, t, taken_record (read_of f) t)
 
 pub code_taken : (f : List ℕ) → file_code f ≡ 0 → Taken f
 unfolding refusal_code
@@ -152,12 +152,12 @@ translates {t} {input} {out} {out'} h = rw h.given.code (go (ℕ_discrete (trans
         (plain (omega arith) (λ z. omega arith)))
 
     -- a word that is searched for
-    found : Outcome t input out out' h.translation → Told true (answer.number_of h.translation)
+    found : Outcome t input out out' h.translation → Told true (number h.translation)
     found (Outcome.written y few fits n k o) = rw n none
     found (Outcome.unread never n) = rw n (plain (omega arith) (λ z. omega arith))
     found (Outcome.short y few long n) = rw n short
 
-    go : Dec (translated.refusal_of t input ≡ 0) → Told (accepted_of t) (answer.number_of h.translation)
+    go : Dec (translated.refusal_of t input ≡ 0) → Told (accepted_of t) (number h.translation)
     go (no n) = rw (by.refused n) refused
     go (yes e) =
         let f = found (by.answered e) in
@@ -186,19 +186,37 @@ edits : {t : Transducer} {e : Edit} {h h' : List ℕ} {r : ℕ} → Edits t e h 
 unfolding edit.refusal_of
 edits {t} {e} h = rw (h.held.code ∙ h.by.number) (then_other (accepted_of t) _ _ refl (line_told t.states t e))
 
-join_few : (o : series.Outcome) → join.number_of o ≤ 100
-join_few Made = omega arith
-join_few Invalid = omega arith
-join_few MoreThanOneCode = omega arith
-join_few ManyPairs = omega arith
-join_few ManyTransitions = omega arith
+refusal_few : (r : Refusal) → refusal_number r ≤ 100
+refusal_few Ended = omega arith
+refusal_few WrongByte = omega arith
+refusal_few NotANumber = omega arith
+refusal_few OutOfRange = omega arith
+refusal_few NotRising = omega arith
+refusal_few BytesFollow = omega arith
+refusal_few TooShort = omega arith
+refusal_few Invalid = omega arith
+refusal_few WordTooLong = omega arith
+refusal_few NoInputCode = omega arith
+refusal_few Unread = omega arith
+refusal_few WordsTooLong = omega arith
+refusal_few NoOutputCode = omega arith
+refusal_few MoreThanOneCode = omega arith
+refusal_few ManyPairs = omega arith
+refusal_few ManyTransitions = omega arith
+refusal_few NoSuchTransition = omega arith
+refusal_few WrongTransition = omega arith
+refusal_few ListTooShort = omega arith
+
+join_few : (r : Result Transducer Refusal) → number r ≤ 100
+join_few (Ok t) = omega arith
+join_few (Err refusal) = refusal_few refusal
 
 joins : {first second : Transducer} {m m' : List ℕ} {r : ℕ} → Joins first second m m' r → Told (accepted_of first && accepted_of second) r
 unfolding join.refusal_of
 joins {first} {second} {r = r} h =
     let refusal : r ≡ join.refusal_of first second h.joins.joined = h.held.code ∙ h.joins.number in
     record {
-      few = rw h.held.code (join_few h.joined.outcome);
+      few = rw h.held.code (join_few h.joined);
       broken = λ e. refusal ∙ rw e refl;
       whole = λ e z. not_invalid first second h.joins.joined (and_left (accepted_of first) (accepted_of second) e) (and_right (accepted_of first) (accepted_of second) e) (sym refusal ∙ z);
     }

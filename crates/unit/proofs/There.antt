@@ -17,8 +17,8 @@ use Rattle.held.specs.Held.{held_of, table_in_of, line_bytes}
 use Rattle.held.proofs.PartLaws.{codes_size}
 use Rattle.held.proofs.HeldLaws.{transition_back}
 use Rattle.held.proofs.BytesLaws.{held_shaped}
-use Rattle.edits.specs.Edits as edit
-use Rattle.edits.specs.Edits.{Edit, Whole, with_line_lem, with_number}
+use Rattle.transducer.specs.Refusals.{number_of}
+use Rattle.edits.specs.Edits.{Edit, Whole, edited_of, with_line_lem, with_number}
 use Rattle.edits.proofs.MadeLaws.{Answered, call_there}
 use Rattle.engine.specs.Engine.{Taken, table_of}
 use Rattle.unit.specs.Calls.{Holding, ReadGiven, Edits}
@@ -39,11 +39,11 @@ module _ (h : List ℕ) (e : Edit) (accepted : accepted_of (table_in_of h) ≡ t
   answer = call_there (table_in_of h) e accepted (held_shaped h) whole
 
   abbrev number : ℕ
-  number = edit.number_of answer.answer.outcome
+  number = number_of answer.answer
 
   -- the memory afterwards
   next : List ℕ
-  next = cond (eqb number 0) (put h 0 (held_of answer.answer.table)) h
+  next = cond (eqb number 0) (put h 0 (held_of (edited_of (table_in_of h) answer.answer))) h
 
   edits : Edits (table_in_of h) e h next number
   unfolding next

@@ -6,7 +6,6 @@ use mathlib.Core.List.{List, [], ◌∷◌}
 use mathlib.Core.Logic.{◌≢◌, ◌↔◌, ◌⊎◌}
 use Prim.Native.Nat.{ℕ, ◌≤◌, ◌<◌}
 use native.Mathlib.Omega.{arith}
-use lib.Dec.{eqb}
 use lib.ListN.{length, get_or, take}
 use Rattle.buffers.specs.Put.{put}
 use Rattle.words.specs.Difference.{shared_of}
@@ -22,12 +21,15 @@ use Rattle.wordtest.specs.Agreement.{Gives}
 use Rattle.wordtest.specs.Numbers as test
 use Rattle.wordtest.proofs.AnswerLaws as words
 use Rattle.witness.specs.Showing.{Buffers}
+use Rattle.std.specs.Prelude.{is_some, Option, Some, None, Result, Ok, Err}
+use Rattle.transducer.specs.declared.refusals.Refusal.{Refusal}
+use Rattle.witness.specs.declared.Counts.{Counts}
 use Rattle.functionality.specs.Decided as decision
-use Rattle.functionality.specs.Decided.{verdict_of, full_of}
+use Rattle.functionality.specs.Decided.{split_by, verdict_of, useful_of, counts_of, full_of}
 use Rattle.functionality.specs.declared.Verdict.{Verdict}
 use Rattle.functionality.proofs.DecidedLaws.{decided_shared, decided_below}
-use Rattle.functionality.specs.declared.Outcome.{Outcome}
-use Rattle.engine.specs.Engine.{judgement_of, file_translation_of}
+use Rattle.engine.specs.Engine.{on_file, split_of}
+use Rattle.engine.proofs.EngineLaws.{number_on, useful_on, length_on}
 use Rattle.engine.specs.Demand3.{value, JudgedInFull, TranslatedInFull}
 use Rattle.engine.proofs.Demand3.{demand_3, served_same}
 use Rattle.answers.specs.Answers.{verdict_answer, translate_answer, accepts_answer, numbers_of}
@@ -50,15 +52,17 @@ none_refused t b z = go (accepted_of t) (full_of b) z
     go false y e = absurd (omega arith)
 
 -- the verdict's number by whether it is split
-by_split : (o : Outcome) → verdict_of o ≡ flag_of (eqb (verdict_of o) 1)
-by_split Outcome.Functional = refl
-by_split Outcome.NotFunctional = refl
-by_split Outcome.BufferTooShort = refl
-by_split Outcome.Invalid = refl
+by_split : (v : Result Verdict Refusal) → verdict_of v ≡ flag_of (split_of (on_file v))
+by_split (Ok v) = go v.witness
+  where
+    go : (w : Option Counts) → split_by w ≡ flag_of (is_some w)
+    go None = refl
+    go (Some counts) = refl
+by_split (Err refusal) = refl
 
 -- the numbers of an answer
-numbers_there : (a : List ℕ) (v : Verdict) (P : ℕ → ℕ → ℕ → ℕ → Type 0)
-    → P (verdict_of v.outcome) v.counts.output_x v.counts.output_y v.counts.shared
+numbers_there : (a : List ℕ) (v : Result Verdict Refusal) (P : ℕ → ℕ → ℕ → ℕ → Type 0)
+    → P (verdict_of v) (counts_of v).output_x (counts_of v).output_y (counts_of v).shared
     → let a' = put a 0 (numbers_of v) in P (get_or a' 0 0) (get_or a' 5 0) (get_or a' 6 0) (get_or a' 7 0)
 unfolding put numbers_of
 numbers_there a v P p = p
@@ -73,7 +77,7 @@ module _ {h a a' : List ℕ} {b b' : Buffers} {r : ℕ} (g : VerdictGiven h b b'
   verdict_accepted : accepted_of (table_in_of h) ≡ true
   verdict_accepted = (none_refused (table_in_of h) b none).0
 
-  in_full : JudgedInFull (value (table_in_of h)) b b' (judgement_of decides.verdict)
+  in_full : JudgedInFull (value (table_in_of h)) b b' (on_file decides.verdict)
   in_full =
       record {
         full = (none_refused (table_in_of h) b none).1;
@@ -100,7 +104,7 @@ module _ {h a a' : List ℕ} {b b' : Buffers} {r : ℕ} (g : VerdictGiven h b b'
       }
 
   -- the first two
-  first_two : take 2 a' ≡ verdict_of decides.verdict.outcome ∷ decides.verdict.useful ∷ []
+  first_two : take 2 a' ≡ verdict_of decides.verdict ∷ useful_of decides.verdict ∷ []
   first_two = ap (take 2) (decides.given.answered z) ∙ front_two a decides.verdict
 
 pub alike_verdict : {h g a a' c c' : List ℕ} {b b' d d' : Buffers} {r s : ℕ} → Alike (table_in_of h) (table_in_of g)
@@ -109,10 +113,11 @@ alike_verdict {h} {g} alike one z other y =
     let same =
     (demand_3 (value (table_in_of h)) (verdict_accepted one z)).alike (in_full one z) {s' = value (table_in_of g)} (verdict_accepted other y) alike (in_full other y)
     in
-    let split =
-    by_split (decides one z).verdict.outcome ∙ ap flag_of same.0 ∙ sym (by_split (decides other y).verdict.outcome)
-    in
-    first_two one z ∙ (λ i. split i ∷ same.1 i ∷ []) ∙ sym (first_two other y)
+    let v = (decides one z).verdict in
+    let w = (decides other y).verdict in
+    let split = by_split v ∙ ap flag_of same.0 ∙ sym (by_split w) in
+    let useful = sym (useful_on v) ∙ same.1 ∙ useful_on w in
+    first_two one z ∙ (λ i. split i ∷ useful i ∷ []) ∙ sym (first_two other y)
 
 pub single_join : {h g m m' : List ℕ} {r : ℕ} → JoinGiven h g m m' r → r ≡ 0
     → {b b' d d' e e' : Buffers} {i i' j j' k k' : List ℕ} {s t u : ℕ} → VerdictGiven h b b' i i' s → s ≡ 0 → get_or i' 0 0 ≡ 0
@@ -128,7 +133,7 @@ sized : {t : Transducer} {input out out' a a' : List ℕ} {r : ℕ} (k : Transla
 sized {a = a} k z = ap (λ l. get_or l 0 0) (k.given.answered z) ∙ front a _ []
 
 translated_in_full : {t : Transducer} {input out out' a a' : List ℕ} {r : ℕ} → most_written ≤ length out → (k : Translates t input out out' a a' r)
-    → TranslatedInFull (value t) input out out' (file_translation_of k.translation)
+    → TranslatedInFull (value t) input out out' (on_file k.translation)
 translated_in_full room k =
     record { room = room; translated = record { translation = k.translation; translated = k.translated; answer = refl } }
 
@@ -139,12 +144,15 @@ translates_alike {t} {u} {out₁' = out₁'} {out₂' = out₂'} {r = r} {s} acc
     let same =
     served_same {s = value t} {s' = value u} accepted accepted' alike functional (translated_in_full room one) (translated_in_full room' other)
     in
-    let code : r ≡ s = one.given.code ∙ same.number ∙ sym other.given.code in
+    let numbers = sym (number_on one.translation) ∙ same.number ∙ number_on other.translation in
+    let lengths = sym (length_on one.translation) ∙ same.size ∙ length_on other.translation in
+    let code : r ≡ s = one.given.code ∙ numbers ∙ sym other.given.code in
     record {
       returned = code;
-      size = λ z. sized one z ∙ same.size ∙ sym (sized other (sym code ∙ z));
+      size = λ z. sized one z ∙ lengths ∙ sym (sized other (sym code ∙ z));
       codes = λ z.
-          ap (λ n. take n out₁') (sized one z) ∙ same.codes ∙ sym (ap (λ n. take n out₂') (sized other (sym code ∙ z)));
+          ap (λ n. take n out₁') (sized one z ∙ sym (length_on one.translation)) ∙ same.codes
+          ∙ sym (ap (λ n. take n out₂') (sized other (sym code ∙ z) ∙ sym (length_on other.translation)));
     }
 
 pub alike_translation : {h g input out₁ out₁' a a' out₂ out₂' c c' : List ℕ} {r s : ℕ} → accepted_of (table_in_of h) ≡ true → accepted_of (table_in_of g) ≡ true

@@ -1,39 +1,30 @@
 -- What each exported function returns and leaves. h, g and m are memories in which tables are held, f a file, x, y, input and output words, b the verdict's
 -- buffers, a the answer list; a name with a prime is what that list holds afterwards. Each record has the contract of the call on table values for
 -- `table_in_of` of what is lent, and how its answer is put into the lists; a refusal, a number other than 0, leaves all of them.
-use Rattle.std.specs.Prelude.{◌≡◌, List, [], ◌∷◌, ℕ, ◌≤◌, length}
+use Rattle.std.specs.Prelude.{◌≡◌, Bool, List, [], ◌∷◌, ℕ, ◌≤◌, length, Result}
 use Rattle.words.specs.Difference.{difference_of, carried_of}
-use Rattle.transducer.specs.Refusals.{list_too_short}
+use Rattle.transducer.specs.Refusals.{list_too_short, number_of}
+use Rattle.transducer.specs.declared.StateSet.{StateSet}
 use Rattle.transducer.specs.declared.Transducer.{Transducer}
+use Rattle.transducer.specs.declared.refusals.Refusal.{Refusal}
 use Rattle.records.specs.Letters.{most_fields}
 use Rattle.tablereader.specs.Transitions.{transition_with}
 use Rattle.tablewriter.specs.Writing as file
 use Rattle.tablewriter.specs.Writing.{Wrote}
-use Rattle.tablewriter.specs.declared.Writing.{Writing}
 use Rattle.held.specs.Held.{flag_of, held_size, table_in_of}
-use Rattle.useful.specs.UsefulStates as states
-use Rattle.useful.specs.UsefulStates.{UsefulStatesOf}
-use Rattle.useful.specs.declared.UsefulStates.{UsefulStates}
-use Rattle.pairs.specs.UsefulPairs as pairs
-use Rattle.pairs.specs.UsefulPairs.{UsefulPairsOf}
+use Rattle.useful.specs.UsefulStates.{states_of, UsefulStatesOf}
+use Rattle.pairs.specs.UsefulPairs.{found_of, UsefulPairsOf}
 use Rattle.pairs.specs.declared.UsefulPairs.{UsefulPairs}
 use Rattle.translator.specs.Numbers as answer
 use Rattle.translator.specs.Translated.{Translated}
-use Rattle.translator.specs.declared.Translation.{Translation}
 use Rattle.wordtest.specs.Numbers as test
 use Rattle.wordtest.specs.Tested.{Tested}
-use Rattle.wordtest.specs.declared.Acceptance.{Acceptance}
 use Rattle.witness.specs.Showing.{Buffers}
-use Rattle.functionality.specs.Decided as decision
 use Rattle.functionality.specs.Decided.{Decided}
 use Rattle.functionality.specs.declared.Verdict.{Verdict}
 use Rattle.engine.specs.Engine.{table_of}
-use Rattle.edits.specs.Edits as edit
-use Rattle.edits.specs.Edits.{Edit, EditedBy}
-use Rattle.edits.specs.declared.Edited.{Edited}
-use Rattle.series.specs.Join as join
-use Rattle.series.specs.Join.{JoinedOf}
-use Rattle.series.specs.declared.Joined.{Joined}
+use Rattle.edits.specs.Edits.{Edit, edited_of, EditedBy}
+use Rattle.series.specs.Join.{joined_of, JoinedOf}
 use Rattle.answers.specs.Answers.{file_code, kind_of, numbers_of, Given, Flagged, HeldIn}
 use Rattle.answers.specs.Answers.{verdict_answer, translate_answer, accepts_answer, pairs_answer, difference_answer, write_answer}
 
@@ -65,9 +56,9 @@ pub record ReadGiven (f h h' : List ℕ) (r : ℕ) : Type 0 where
 
 -- the file of t is written, and its byte count answered
 pub record Writes (t : Transducer) (out out' a a' : List ℕ) (r : ℕ) : Type 0 where
-  pub writing : Writing
+  pub writing : Result ℕ Refusal
   pub wrote : Wrote t out out' writing
-  pub given : Given (file.number_of writing) (file.length_of writing ∷ []) a a' r
+  pub given : Given (number_of writing) (file.length_of writing ∷ []) a a' r
 
 -- what `yotselina_write` returns and leaves
 pub record WriteGiven (h out out' a a' : List ℕ) (r : ℕ) : Type 0 where
@@ -77,9 +68,9 @@ pub record WriteGiven (h out out' a a' : List ℕ) (r : ℕ) : Type 0 where
 
 -- the verdict on t, and its eight numbers
 pub record Decides (t : Transducer) (b b' : Buffers) (a a' : List ℕ) (r : ℕ) : Type 0 where
-  pub verdict : Verdict
+  pub verdict : Result Verdict Refusal
   pub decided : Decided t b b' verdict
-  pub given : Given (decision.number_of verdict.outcome) (numbers_of verdict) a a' r
+  pub given : Given (number_of verdict) (numbers_of verdict) a a' r
 
 -- what `yotselina_verdict` returns and leaves
 pub record VerdictGiven (h : List ℕ) (b b' : Buffers) (a a' : List ℕ) (r : ℕ) : Type 0 where
@@ -89,9 +80,9 @@ pub record VerdictGiven (h : List ℕ) (b b' : Buffers) (a a' : List ℕ) (r : �
 
 -- the translation of a word by t, and the length of its output
 pub record Translates (t : Transducer) (input out out' a a' : List ℕ) (r : ℕ) : Type 0 where
-  pub translation : Translation
+  pub translation : Result ℕ Refusal
   pub translated : Translated t input out out' translation
-  pub given : Given (answer.number_of translation) (answer.length_of translation ∷ []) a a' r
+  pub given : Given (number_of translation) (answer.length_of translation ∷ []) a a' r
 
 -- what `yotselina_translate` returns and leaves
 pub record TranslationGiven (h input out out' a a' : List ℕ) (r : ℕ) : Type 0 where
@@ -99,9 +90,9 @@ pub record TranslationGiven (h input out out' a a' : List ℕ) (r : ℕ) : Type 
 
 -- the test of two words by t, 1 for yes and 0 for no
 pub record Tests (t : Transducer) (input output a a' : List ℕ) (r : ℕ) : Type 0 where
-  pub acceptance : Acceptance
+  pub acceptance : Result Bool Refusal
   pub tested : Tested t input output acceptance
-  pub given : Given (test.number_of acceptance) (flag_of (test.says_yes acceptance) ∷ []) a a' r
+  pub given : Given (number_of acceptance) (flag_of (test.says_yes acceptance) ∷ []) a a' r
 
 -- what `yotselina_accepts` returns and leaves
 pub record AcceptsGiven (h input output a a' : List ℕ) (r : ℕ) : Type 0 where
@@ -111,9 +102,9 @@ pub record AcceptsGiven (h input output a a' : List ℕ) (r : ℕ) : Type 0 wher
 
 -- a flag for each state: whether it is useful
 pub record FindsStates (t : Transducer) (flags flags' : List ℕ) (r : ℕ) : Type 0 where
-  pub found : UsefulStates
+  pub found : Result StateSet Refusal
   pub useful : UsefulStatesOf t found
-  pub flagged : Flagged (states.number_of found.outcome) found.states.member flags flags' r
+  pub flagged : Flagged (number_of found) (states_of found).member flags flags' r
 
 -- what `yotselina_useful_states` returns and leaves
 pub record StatesGiven (h flags flags' : List ℕ) (r : ℕ) : Type 0 where
@@ -125,10 +116,10 @@ pub record LookGiven (h flags flags' : List ℕ) (r : ℕ) : Type 0 where
 
 -- a flag for each pair of states, at the pair's number: whether it is useful; and how many are
 pub record FindsPairs (t : Transducer) (flags flags' a a' : List ℕ) (r : ℕ) : Type 0 where
-  pub found : UsefulPairs
+  pub found : Result UsefulPairs Refusal
   pub useful : UsefulPairsOf t found
-  pub flagged : Flagged (pairs.number_of found.outcome) found.set.member flags flags' r
-  pub given : Given r (found.count ∷ []) a a' r
+  pub flagged : Flagged (number_of found) (found_of found).set.member flags flags' r
+  pub given : Given r ((found_of found).count ∷ []) a a' r
 
 -- what `yotselina_useful_pairs` returns and leaves
 pub record PairsGiven (h flags flags' a a' : List ℕ) (r : ℕ) : Type 0 where
@@ -138,9 +129,9 @@ pub record PairsGiven (h flags flags' a a' : List ℕ) (r : ℕ) : Type 0 where
 
 -- the edit of t, whose result is held where t was
 pub record Edits (t : Transducer) (e : Edit) (h h' : List ℕ) (r : ℕ) : Type 0 where
-  pub edited : Edited
+  pub edited : Result Transducer Refusal
   pub by : EditedBy t e edited
-  pub held : HeldIn (edit.number_of edited.outcome) edited.table h h' r
+  pub held : HeldIn (number_of edited) (edited_of t edited) h h' r
 
 -- what `yotselina_append` returns and leaves: the line is handed over as its twelve numbers
 pub record AppendGiven (h line h' : List ℕ) (r : ℕ) : Type 0 where
@@ -152,9 +143,9 @@ pub record RemoveGiven (h : List ℕ) (number : ℕ) (h' : List ℕ) (r : ℕ) :
 
 -- the join of two tables, which is held in a third memory
 pub record Joins (first second : Transducer) (m m' : List ℕ) (r : ℕ) : Type 0 where
-  pub joined : Joined
+  pub joined : Result Transducer Refusal
   pub joins : JoinedOf first second joined
-  pub held : HeldIn (join.number_of joined.outcome) joined.table m m' r
+  pub held : HeldIn (number_of joined) (joined_of joined) m m' r
 
 -- what `yotselina_join` returns and leaves
 pub record JoinGiven (h g m m' : List ℕ) (r : ℕ) : Type 0 where

@@ -1,7 +1,7 @@
 -- What holds of any results that meet the contracts of specs/Calls.antt: what is returned, and when it is 8; what a call leaves in memory is what the next
 -- finds there, from file to file; what is returned and left is determined, but for what document 01 leaves open; alike tables are answered alike; and what
 -- documents 01 and 02 say of the verdict, the word test, joins, edits and looks. `boundary` of proofs/Boundary.antt proves it.
-use Rattle.std.specs.Prelude.{◌≡◌, true, false, ◌&&◌, ◌≢◌, ◌↔◌, ◌⊎◌, ℕ, ◌≤◌, ◌<◌, ◌/◌, ◌%◌, length, get_or, take, drop}
+use Rattle.std.specs.Prelude.{◌≡◌, true, false, ◌&&◌, ◌≢◌, ◌↔◌, ◌⊎◌, ℕ, ◌≤◌, ◌<◌, ◌/◌, ◌%◌, length, get_or, take, drop, Result, Ok}
 use mathlib.Core.List.{List, [], ◌∷◌, Memᴰ}
 use Rattle.buffers.specs.Put.{put}
 use Rattle.words.specs.Difference.{shared_of}
@@ -17,8 +17,7 @@ use Rattle.edits.specs.Edits.{Edit, Whole}
 use Rattle.edits.specs.Rows.{InARow}
 use Rattle.series.specs.Composition.{InSeries}
 use Rattle.series.specs.Join.{JoinedOf}
-use Rattle.series.specs.declared.Joined.{Joined}
-use Rattle.series.specs.declared.Outcome.TheVariants.{Made}
+use Rattle.transducer.specs.declared.refusals.Refusal.{Refusal}
 use Rattle.panel.specs.Makings.{Looks}
 use Rattle.wordsearch.specs.Limits.{most_written}
 use Rattle.witness.specs.Showing.{Buffers}
@@ -66,8 +65,8 @@ pub record EditsInPlace (h : List ℕ) (edits : List Edit) (returned h' : List �
   pub behind : drop held_size h' ≡ drop held_size h
 
 -- a join that is done
-abbrev pub made_of : Transducer → Joined
-made_of t = record { outcome = Made; table = t }
+abbrev pub made_of : Transducer → Result Transducer Refusal
+made_of t = Ok t
 
 -- t is the two in series
 pub record SeriesOf (first second t : Transducer) : Type 0 where

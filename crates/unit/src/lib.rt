@@ -3,7 +3,9 @@
 // cite specs/Calls.antt; specs/Laws.antt says what they determine.
 #![tactic(auto)]
 
-ghost use Rattle.std.specs.Prelude.{◌≡◌};
+ghost use Rattle.std.specs.Prelude.{◌≡◌, [], ◌∷◌};
+ghost use Rattle.engine.specs.Engine as engine;
+ghost use Rattle.transducer.specs.Refusals.{list_too_short};
 ghost use Rattle.witness.specs.Showing.{buffers_of};
 ghost use Rattle.answers.specs.Answers.{file_code};
 ghost use Rattle.unit.specs.Calls as calls;
@@ -11,11 +13,16 @@ ghost use Rattle.unit.specs.Calls.{ReadGiven, WriteGiven, VerdictGiven, Translat
 ghost use Rattle.unit.specs.Calls.{AppendGiven, RemoveGiven, JoinGiven, DifferenceGiven};
 
 use held::SIZE;
+use pairs::UsefulPairs;
 use records::reading::MOST_FIELDS;
-use transducer::refusals;
+use tablereader::FileRefusal;
+use transducer::limits::STATES;
+use transducer::refusals::Refusal;
+use transducer::{StateSet, Transducer};
+use witness::Lent;
 
-// The refusal of a list that is shorter than the call needs before it can begin.
-const LIST_TOO_SHORT: u32 = refusals::LIST_TOO_SHORT as u32;
+// The pairs of states.
+const PAIRS: usize = STATES * STATES;
 
 // The version of the calls, of their answers and of held tables: 2.0.
 const VERSION: u32 = 131072;
@@ -33,9 +40,7 @@ pub extern "C" fn yotselina_version() -> u32
 pub extern "C" fn yotselina_check(file: &[u8]) -> u32
     ensures { result ≡ file_code file.now }
 {
-    let reading = tablereader::read(file);
-    let outcome = reading.outcome;
-    answers::of_file(outcome)
+    answers::of_file(tablereader::read(file))
 }
 
 // Reads a table file; its table is held in `table`.
@@ -44,12 +49,9 @@ pub extern "C" fn yotselina_read(file: &[u8], table: &mut [u8]) -> u32
     ensures { ReadGiven file.now table.old table.new result }
 {
     if table.len() < SIZE {
-        return LIST_TOO_SHORT;
+        return too_short();
     }
-    let reading = tablereader::read(file);
-    let outcome = reading.outcome;
-    let t = reading.table;
-    answers::give_table(table, t, answers::of_file(outcome))
+    answers::give_table(table, tablereader::read(file))
 }
 
 // Writes the file of a held table to the front of `out`; the answer is its byte count.
@@ -58,18 +60,18 @@ pub extern "C" fn yotselina_write(table: &[u8], out: &mut [u8], answer: &mut [u6
     ensures { WriteGiven table.now out.old out.new answer.old answer.new result }
 {
     if answer.len() < answers::WRITE {
-        return LIST_TOO_SHORT;
+        return too_short();
     }
     if table.len() < SIZE {
-        return LIST_TOO_SHORT;
+        return too_short();
     }
     let t = held::table_in(table);
-    let writing = tablewriter::write(t, out);
-    let numbers = [writing.length() as u64];
-    answers::give(answer, &numbers, writing.number())
+    let written = tablewriter::write(t, out);
+    answers::give(answer, written.map(answers::one))
 }
 
 // Tests whether a held table is functional. A witness that it is not is put into the five buffers; the answer is the eight numbers of the verdict.
+// Stays with a list for each part of a witness: C lends them so.
 #[unsafe(no_mangle)]
 pub extern "C" fn yotselina_verdict(
     table: &[u8],
@@ -87,13 +89,20 @@ pub extern "C" fn yotselina_verdict(
         result }
 {
     if answer.len() < answers::VERDICT {
-        return LIST_TOO_SHORT;
+        return too_short();
     }
     if table.len() < SIZE {
-        return LIST_TOO_SHORT;
+        return too_short();
     }
     let t = held::table_in(table);
-    let verdict = functionality::decide(t, word, path_a, path_b, output_x, output_y);
+    let mut lent = Lent {
+        word,
+        path_a,
+        path_b,
+        output_x,
+        output_y,
+    };
+    let verdict = functionality::decide(t, &mut lent);
     answers::give_verdict(answer, verdict)
 }
 
@@ -110,15 +119,14 @@ pub extern "C" fn yotselina_translate(
         result }
 {
     if answer.len() < answers::TRANSLATE {
-        return LIST_TOO_SHORT;
+        return too_short();
     }
     if table.len() < SIZE {
-        return LIST_TOO_SHORT;
+        return too_short();
     }
     let t = held::table_in(table);
-    let translation = translator::translate(t, input, output);
-    let numbers = [translation.length() as u64];
-    answers::give(answer, &numbers, translation.number())
+    let translated = translator::translate(t, input, output);
+    answers::give(answer, translated.map(answers::one))
 }
 
 // Whether some accepting path of a held table reads the word `input` and writes the word `output`; the answer is 1 for yes, 0 for no.
@@ -132,15 +140,14 @@ pub extern "C" fn yotselina_accepts(
     ensures { AcceptsGiven table.now input.now output.now answer.old answer.new result }
 {
     if answer.len() < answers::ACCEPTS {
-        return LIST_TOO_SHORT;
+        return too_short();
     }
     if table.len() < SIZE {
-        return LIST_TOO_SHORT;
+        return too_short();
     }
     let t = held::table_in(table);
-    let acceptance = wordtest::accepts(t, input, output);
-    let numbers = [acceptance.yes() as u64];
-    answers::give(answer, &numbers, acceptance.number())
+    let accepted = wordtest::accepts(t, input, output);
+    answers::give(answer, accepted.map(answers::yes))
 }
 
 // Puts a flag for each of transducer::limits::STATES states to the front of `flags`: whether it is useful.
@@ -149,14 +156,11 @@ pub extern "C" fn yotselina_useful_states(table: &[u8], flags: &mut [u8]) -> u32
     ensures { StatesGiven table.now flags.old flags.new result }
 {
     if table.len() < SIZE {
-        return LIST_TOO_SHORT;
+        return too_short();
     }
     let t = held::table_in(table);
     let found = useful::useful_states(t);
-    let outcome = found.outcome;
-    let states = found.states;
-    let members = states.member;
-    answers::give_flags(flags, &members, outcome.number())
+    answers::give_flags(flags, found.map(members))
 }
 
 // The panel's look: the flags that are kept. Nothing else of the memory is looked at: nothing is checked, and nothing is worked out.
@@ -165,11 +169,10 @@ pub extern "C" fn yotselina_look(table: &[u8], flags: &mut [u8]) -> u32
     ensures { LookGiven table.now flags.old flags.new result }
 {
     if table.len() < SIZE {
-        return LIST_TOO_SHORT;
+        return too_short();
     }
     let states = held::set_at(table, held::USEFUL_AT);
-    let members = states.member;
-    answers::give_flags(flags, &members, 0)
+    answers::give_flags(flags, Ok(states.member))
 }
 
 // Puts a flag for each pair of states to the front of `flags`, at the pair's number: whether it is useful; the answer is u, how many are.
@@ -178,22 +181,18 @@ pub extern "C" fn yotselina_useful_pairs(table: &[u8], flags: &mut [u8], answer:
     ensures { PairsGiven table.now flags.old flags.new answer.old answer.new result }
 {
     if answer.len() < answers::PAIRS {
-        return LIST_TOO_SHORT;
+        return too_short();
     }
     if table.len() < SIZE {
-        return LIST_TOO_SHORT;
+        return too_short();
     }
     let t = held::table_in(table);
     let found = pairs::useful_pairs(t);
-    let outcome = found.outcome;
-    let set = found.set;
-    let members = set.member;
-    let refusal = answers::give_flags(flags, &members, outcome.number());
+    let refusal = answers::give_flags(flags, found.map(pairs));
     if refusal != 0 {
         return refusal;
     }
-    let numbers = [found.count as u64];
-    answers::give(answer, &numbers, 0)
+    answers::give(answer, found.map(u))
 }
 
 // Appends the line whose numbers are `line` to a held table, behind its last, in place.
@@ -202,16 +201,14 @@ pub extern "C" fn yotselina_append(table: &mut [u8], line: &[u8]) -> u32
     ensures { AppendGiven table.old line.now table.new result }
 {
     if table.len() < SIZE {
-        return LIST_TOO_SHORT;
+        return too_short();
     }
     if line.len() < MOST_FIELDS {
-        return LIST_TOO_SHORT;
+        return too_short();
     }
     let t = held::table_in(table);
     let edited = edits::append(t, held::line_in(line));
-    let outcome = edited.outcome;
-    let made = edited.table;
-    answers::give_table(table, made, outcome.number() as u32)
+    answers::give_table(table, on_file(edited))
 }
 
 // Removes the line number `number` of a held table, in place: those after it move down one.
@@ -220,13 +217,11 @@ pub extern "C" fn yotselina_remove(table: &mut [u8], number: usize) -> u32
     ensures { RemoveGiven table.old number table.new result }
 {
     if table.len() < SIZE {
-        return LIST_TOO_SHORT;
+        return too_short();
     }
     let t = held::table_in(table);
     let edited = edits::remove(t, number);
-    let outcome = edited.outcome;
-    let made = edited.table;
-    answers::give_table(table, made, outcome.number() as u32)
+    answers::give_table(table, on_file(edited))
 }
 
 // Joins two held tables in series; the joined table is held in `res` (the header's `result`).
@@ -235,20 +230,18 @@ pub extern "C" fn yotselina_join(first: &[u8], second: &[u8], res: &mut [u8]) ->
     ensures { JoinGiven first.now second.now res.old res.new result }
 {
     if first.len() < SIZE {
-        return LIST_TOO_SHORT;
+        return too_short();
     }
     if second.len() < SIZE {
-        return LIST_TOO_SHORT;
+        return too_short();
     }
     if res.len() < SIZE {
-        return LIST_TOO_SHORT;
+        return too_short();
     }
     let t = held::table_in(first);
     let other = held::table_in(second);
     let joined = series::join(t, other);
-    let outcome = joined.outcome;
-    let made = joined.table;
-    answers::give_table(res, made, outcome.number() as u32)
+    answers::give_table(res, on_file(joined))
 }
 
 // The difference of two lists of output codes: the answer is how they compare, and of a clash how many codes they have in common at the beginning,
@@ -258,10 +251,45 @@ pub extern "C" fn yotselina_difference(x: &[u8], y: &[u8], answer: &mut [u64]) -
     ensures { DifferenceGiven x.now y.now answer.old answer.new result }
 {
     if answer.len() < answers::DIFFERENCE {
-        return LIST_TOO_SHORT;
+        return too_short();
     }
     let comparison = words::difference(x, y);
     let kind = answers::kind(comparison);
-    let numbers = [kind, words::carried(comparison) as u64];
-    answers::give(answer, &numbers, 0)
+    answers::give(answer, Ok([kind, words::carried(comparison) as u64]))
+}
+
+// The answer of a call that has no file: a refusal without a record.
+fn on_file(made: Result<Transducer, Refusal>) -> Result<Transducer, FileRefusal>
+    ensures { result ≡ engine.on_file made }
+{
+    Ok(made?)
+}
+
+// The flags of useful states.
+fn members(states: StateSet) -> [bool; STATES]
+    ensures { result ≡ states.member }
+{
+    states.member
+}
+
+// The flags of useful pairs.
+fn pairs(found: UsefulPairs) -> [bool; PAIRS]
+    ensures { result ≡ found.set.member }
+{
+    found.set.member
+}
+
+// How many they are.
+fn u(found: UsefulPairs) -> [u64; 1]
+    ensures { result ≡ found.count ∷ [] }
+{
+    [found.count as u64]
+}
+
+// The refusal of a list that is shorter than the call needs before it can begin. Each call tests its lists itself: an inner function with `?` for each would
+// say its contract twice.
+fn too_short() -> u32
+    ensures { result ≡ list_too_short }
+{
+    Refusal::ListTooShort.number() as u32
 }

@@ -4,11 +4,11 @@ use mathlib.Core.Path.{◌≡◌, refl, sym, ap, ◌∙◌, subst}
 use mathlib.Core.Logic.{◌↔◌, ◌⊎◌, inl, inr}
 use Prim.Native.Nat.{ℕ, zero, suc, ◌+◌, ◌*◌, ◌-◌, ◌/◌, ◌%◌, ◌^◌, ◌<◌, max}
 use native.Mathlib.Decide.{dec_lt}
-use native.Mathlib.Nat.{zero-lt-suc, zero-div, div-one, div_self, div-eq_of_lt, div-lt_iff_lt-mul, div-div-eq-div-mul, mul-div_cancel, mul-mod_left, mul-add-mod_self_right, mod-eq_of_lt, one-mul, pow-suc, pow-succ', max-le, le-max_left, le-max_right, max-eq_right, lt_of_lt_of_le}
+use native.Mathlib.Nat.{zero-lt-suc, zero-div, div-one, div_self, div-eq_of_lt, div-lt_iff_lt-mul, div-div-eq-div-mul, mul-div_cancel, mul-mod_left, mul-add-mod_self_right, mod-eq_of_lt, pow-suc, pow-succ', max-le, le-max_left, le-max_right, max-eq_right, lt_of_lt_of_le}
 use native.Mathlib.Omega.{arith}
 use lib.Bits.{bit_or, bit_xor, differ, or_step, or_shr, or_add_and, and_le_l, and_le_r, xor_step, xor_shr, xor_add_and}
 use lib.Count.{count_trailing_zeros, under}
-use lib.Pow.{pow-add, pow-lt, pow_mono, pow_pos, shl_exact}
+use lib.Pow.{pow-add, pow-lt, pow_mono, pow_pos}
 use Rattle.useful.specs.Sets.{Has}
 
 -- a binary digit is 0 or 1
@@ -109,10 +109,6 @@ has_one k q = (there, λ e. rw e record { digit = ap (λ (x : ℕ). x % 2) (div_
             ap (λ (x : ℕ). 2 ^ x / 2 ^ q) e ∙ ap (λ (x : ℕ). x / 2 ^ q) (pow-add 2 (suc j) q) ∙ mul-div_cancel (2 ^ suc j) (pow_pos q) ∙ pow-suc 2 j in
             absurd (omega (arith, h.digit, ap (λ (x : ℕ). x % 2) half, mul-mod_left (2 ^ j) 2))
         go (no l) (no g) = omega arith
-
--- `1 << q` is the set of q
-pub one_shifted : (q : ℕ) → q < 32 → (1 * 2 ^ q) % 2 ^ 32 ≡ 2 ^ q
-one_shifted q h = shl_exact {a = 1} 1 q 32 (omega arith) (omega arith) ∙ one-mul (2 ^ q)
 
 -- a set with a state that it did not have is more
 pub or_more : (s q : ℕ) → (Has s q → ⊥) → s < bit_or s (2 ^ q)

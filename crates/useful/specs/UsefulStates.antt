@@ -1,28 +1,26 @@
 -- What `useful_states` answers, and what its parts do.
-use Rattle.std.specs.Prelude.{◌≡◌, true, false, cond, ◌↔◌, ℕ, length}
+use Rattle.std.specs.Prelude.{◌≡◌, true, false, cond, ◌↔◌, ℕ, length, Result, Ok, Err}
 use Rattle.transducer.specs.Limits.{most_states}
 use Rattle.transducer.specs.StateSet.{In, no_states}
 use Rattle.transducer.specs.Accepted.{accepted_of}
-use Rattle.transducer.specs.Refusals.{invalid}
+use Rattle.transducer.specs.Refusals.{invalid, number_of}
 use Rattle.transducer.specs.Useful.{UsefulState}
+use Rattle.transducer.specs.declared.refusals.Refusal.{Refusal}
 use Rattle.transducer.specs.declared.StateSet.{StateSet}
 use Rattle.transducer.specs.declared.Transducer.{Transducer}
 use Rattle.useful.specs.Sets.{Has}
-use Rattle.useful.specs.declared.Outcome.{Outcome}
-use Rattle.useful.specs.declared.Outcome.TheVariants.{Found, Invalid}
-use Rattle.useful.specs.declared.UsefulStates.{UsefulStates}
 
--- document 01's number of an outcome; 0 where nothing is refused
-abbrev pub number_of : Outcome → ℕ
-number_of Found = 0
-number_of Invalid = invalid
+-- the set that an answer has: with a refusal the empty one
+abbrev pub states_of : Result StateSet Refusal → StateSet
+states_of (Ok states) = states
+states_of (Err refusal) = no_states
 
 -- a refusal with the empty set exactly where the value is not accepted; else a state is in the set exactly when it is useful
-pub record UsefulStatesOf (t : Transducer) (r : UsefulStates) : Type 0 where
-  pub number : number_of r.outcome ≡ cond (accepted_of t) 0 invalid
-  pub refused : accepted_of t ≡ false → r.states ≡ no_states
-  pub members : accepted_of t ≡ true → (q : ℕ) → In r.states q ↔ UsefulState t q
-  pub long : length r.states.member ≡ most_states
+pub record UsefulStatesOf (t : Transducer) (r : Result StateSet Refusal) : Type 0 where
+  pub number : number_of r ≡ cond (accepted_of t) 0 invalid
+  pub refused : accepted_of t ≡ false → states_of r ≡ no_states
+  pub members : accepted_of t ≡ true → (q : ℕ) → In (states_of r) q ↔ UsefulState t q
+  pub long : length (states_of r).member ≡ most_states
 
 -- ---- the parts
 

@@ -1,5 +1,6 @@
-// Sets of states as numbers of 32 binary digits (specs/Sets.antt), and what is reached from such a set.
-ghost use Rattle.std.specs.Prelude.{◌↔◌, ◌≡◌, ℕ, ◌^◌, ◌<◌, length, get_or, set, replicate};
+// Sets of states as numbers of 32 binary digits (specs/Sets.antt), and what is reached from such a set. They stay plain numbers: a struct would hand on
+// the same operators, and say no more.
+ghost use Rattle.std.specs.Prelude.{◌↔◌, ◌≡◌, ℕ, ◌^◌, ◌<◌, length, get_or, set};
 ghost use Rattle.std.specs.Int.Bits.{bit_or};
 ghost use Rattle.transducer.specs.Limits.{most_states};
 ghost use Rattle.transducer.specs.Reversal.{reversed_of};
@@ -14,9 +15,9 @@ pub fn number(s: StateSet) -> u32
     ensures { (q : ℕ) → Has result q ↔ In s q }
 {
     let mut set: u32 = 0;
-    for q in 0..limits::STATES {
-        if s.contains(q as u8) {
-            set = set | one(q as u32);
+    for (q, inside) in s.member.iter().enumerate() {
+        if *inside {
+            set |= one(q as u32);
         }
     }
     set
@@ -38,22 +39,19 @@ pub fn has(set: u32, q: u32) -> bool
     (set >> q) % 2 == 1
 }
 
-// Makes, of two lists that hold 0, that of the states which transitions lead to from each state, and that of the states from which they lead to it.
-pub fn steps(t: Transducer, ahead: &mut [u32], back: &mut [u32])
-    requires valid { Valid t }
-    requires ahead_value { ahead.old ≡ replicate most_states 0 }
-    requires back_value { back.old ≡ replicate most_states 0 }
-    ensures steps_of { StepsOf t ahead.new }
-    ensures steps_of_2 { StepsOf (reversed_of t) back.new }
+// For each state the set of those that transitions lead to from it, and of those from which they lead to it.
+pub fn steps(t: Transducer) -> ([u32; limits::STATES], [u32; limits::STATES])
+    requires { Valid t }
+    ensures ahead { StepsOf t result.0 }
+    ensures back { StepsOf (reversed_of t) result.1 }
 {
-    let count = t.count as usize;
-    let mut l: usize = 0;
-    while l < count {
-        let v = t.transitions[l];
-        add(ahead, v.from, v.to);
-        add(back, v.to, v.from);
-        l += 1;
+    let mut ahead = [0u32; limits::STATES];
+    let mut back = [0u32; limits::STATES];
+    for v in &t.transitions[..t.count as usize] {
+        add(&mut ahead, v.from, v.to);
+        add(&mut back, v.to, v.from);
     }
+    (ahead, back)
 }
 
 // Adds the state q to the set of the state p.
@@ -63,8 +61,7 @@ fn add(list: &mut [u32], p: u8, q: u8)
     requires q_lt_most_states { q < most_states }
     ensures { list.new ≡ set list.old p (bit_or (get_or list.old p 0) (2 ^ q)) }
 {
-    let place = p as usize;
-    list[place] = list[place] | one(q as u32);
+    list[p as usize] |= one(q as u32);
 }
 
 // The set of the states that are reached from those of a set: as long as one of them is not done, the lowest of these adds its own set.
@@ -75,9 +72,9 @@ pub fn reached(list: &[u32], from: u32) -> u32
     let mut found = from;
     let mut done: u32 = 0;
     while found != done {
-        let q = u32::trailing_zeros(found ^ done);
-        done = done | one(q);
-        found = found | list[q as usize];
+        let q = (found ^ done).trailing_zeros();
+        done |= one(q);
+        found |= list[q as usize];
     }
     found
 }

@@ -4,14 +4,12 @@
 
 use listing::VERDICT_BYTES;
 use report::READ_BYTES;
-use streams::Input;
 
 fn main(rt: HostRuntime) {
     let mut input = rt.stdin();
     let errors = rt.stderr();
     let mut text = [0u8; READ_BYTES];
-    let Input::Got(got) = streams::read(&mut input, &errors, b"verdict: standard input", &mut text)
-    else {
+    let Some(got) = streams::read(&mut input, &errors, b"verdict: standard input", &mut text) else {
         return;
     };
     let mut out = [0u8; VERDICT_BYTES];

@@ -53,7 +53,7 @@ pub length_side : (r : Bool) (labels : List ℕ) → length (side_of r (walk_of 
 length_side true labels = omega (arith, (length_sides (walk_of labels)).1, length-map labels step_of)
 length_side false labels = omega (arith, (length_sides (walk_of labels)).0, length-map labels step_of)
 
--- ---- the loop of `side`
+-- ---- the loop of `write_side`
 
 module _ (r : Bool) (labels entry : List ℕ) where
   -- the side of the walk from place i on

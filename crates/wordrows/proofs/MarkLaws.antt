@@ -1,11 +1,13 @@
 -- What a mark leaves: the state and those of its closure are marked, and no other is that was not. Assumes nothing.
-use mathlib.Core.Path.{◌≡◌, refl, ap, ◌∙◌}
+use mathlib.Core.Path.{◌≡◌, ap, ◌∙◌}
 use mathlib.Core.List.{List}
 use mathlib.Core.Logic.{◌≢◌, ◌⊎◌, inl, inr, ⊎_elim}
 use Prim.Native.Nat.{ℕ, zero, suc, ◌+◌, ◌≤◌, ◌<◌}
 use native.Mathlib.Decide.{ℕ_discrete}
 use native.Mathlib.Omega.{arith}
-use borrow.Author.Count.{below_more}
+use Rattle.std.specs.Prelude.{max}
+use Rattle.std.specs.List.{between}
+use Rattle.std.proofs.lemmas.List.Edits.{get_or-between}
 use lib.ListN.{length, get_or, set, length-set}
 use lib.Seq.{get_or-set_same, get_or-set_other}
 use Rattle.transducer.specs.Limits.{most_states}
@@ -14,50 +16,18 @@ use Rattle.closure.specs.Closure.{flag_at_of, Set, Silent, ClosureOf}
 use Rattle.closure.proofs.PassLaws.{silent_more}
 use Rattle.wordrows.specs.Limits.{most_output}
 use Rattle.wordrows.specs.Rows.{cell_at, place_of, Marked, Row}
-use Rattle.wordrows.specs.Cells.{either_of, Added, Mark}
-
--- ---- the loop of `add`
-
-pub added_none : {to : ℕ} {flags : List ℕ} {from : ℕ} {row : List ℕ} → Added to flags from 0 row row
-added_none = record { size = refl; here = λ i h. absurd (omega arith); before = λ i h. refl; behind = λ i h. refl }
-
-pub added_more : {to : ℕ} {flags : List ℕ} {from n v : ℕ} {row row' : List ℕ} → to + n < length row → Added to flags from n row row'
-    → v ≡ either_of (get_or row' (to + n) 0) (get_or flags (from + n) 0) → Added to flags from (n + 1) row (set row' (to + n) v)
-added_more {to} {flags} {from} {n} {v} {row} {row'} room h e =
-    record {
-      size = length-set row' (to + n) v ∙ h.size;
-      here =
-          below_more (λ i. get_or (set row' (to + n) v) (to + i) 0 ≡ either_of (get_or row (to + i) 0) (get_or flags (from + i) 0)) n
-          (λ i b. get_or-set_other row' (to + n) (to + i) v 0 (λ y. omega arith) ∙ h.here i b)
-          (get_or-set_same row' (to + n) v 0 (omega (arith, h.size)) ∙ e ∙ ap (λ (a : ℕ). either_of a (get_or flags (from + n) 0)) (h.behind (to + n) (omega arith)));
-      before = λ i b. get_or-set_other row' (to + n) i v 0 (λ y. omega arith) ∙ h.before i b;
-      behind = λ i b. get_or-set_other row' (to + n) i v 0 (λ y. omega arith) ∙ h.behind i (omega arith);
-    }
-
-pub either_zero : (a b : ℕ) → a ≡ 0 → b ≡ either_of a b
-unfolding either_of
-either_zero a b e = rw e
-
-pub either_some : (a b : ℕ) → a ≢ 0 → a ≡ either_of a b
-unfolding either_of
-either_some zero b n = absurd (n refl)
-either_some (suc a) b n = refl
+use Rattle.wordrows.specs.Cells.{Added, Mark}
 
 -- one of the two is set where either is
-either_first : (a b : ℕ) → 0 < a → 0 < either_of a b
-unfolding either_of
-either_first zero b h = absurd (omega arith)
-either_first (suc a) b h = h
+either_first : (a b : ℕ) → 0 < a → 0 < max a b
+either_first a b h = omega arith
 
-either_second : (a b : ℕ) → 0 < b → 0 < either_of a b
-unfolding either_of
-either_second zero b h = h
-either_second (suc a) b h = omega arith
+either_second : (a b : ℕ) → 0 < b → 0 < max a b
+either_second a b h = omega arith
 
-either_only : (a b : ℕ) → 0 < either_of a b → (0 < a) ⊎ (0 < b)
-unfolding either_of
-either_only zero b h = inr h
-either_only (suc a) b h = inl h
+either_only : (a b : ℕ) → 0 < max a b → (0 < a) ⊎ (0 < b)
+either_only zero b h = inr (omega arith)
+either_only (suc a) b h = inl (omega arith)
 
 -- ---- a mark
 
@@ -78,16 +48,17 @@ module _ {m written output : List ℕ} where
   module _ {closures row row' : List ℕ} {j q : ℕ} (x : Mark closures row j q row') (closed : ClosureOf m written closures) (h : Row m written output row)
       (low : j ≤ most_output) (state : q < most_states) where
     -- a place of the cell has what it had, or what the closure has
-    at_cell : Added (place_of j 0) closures (flag_at_of q 0) most_states (set row (cell_at j) 1) row' → (p : ℕ) → p < most_states
-        → get_or row' (place_of j p) 0 ≡ either_of (get_or row (place_of j p) 0) (get_or closures (flag_at_of q p) 0)
+    at_cell : Added (place_of j 0) (between (flag_at_of q 0) (flag_at_of q most_states) closures) (set row (cell_at j) 1) row' → (p : ℕ)
+        → p < most_states → get_or row' (place_of j p) 0 ≡ max (get_or closures (flag_at_of q p) 0) (get_or row (place_of j p) 0)
     at_cell a p b =
         let s : place_of j 0 + p ≡ place_of j p = omega arith in
         let f : flag_at_of q 0 + p ≡ flag_at_of q p = omega arith in
-        rw (s, f, get_or-set_other row (cell_at j) (place_of j p) 1 0 (λ y. omega arith)) at (a.here p b)
+        let g = get_or-between closures (flag_at_of q 0) (flag_at_of q most_states) p 0 (omega arith) in
+        rw (s, g, f, get_or-set_other row (cell_at j) (place_of j p) 1 0 (λ y. omega arith)) at (a.here p b)
 
     -- a place of another cell has what it had
-    elsewhere : Added (place_of j 0) closures (flag_at_of q 0) most_states (set row (cell_at j) 1) row' → (i : ℕ) → i ≢ cell_at j → (i < place_of j 0) ⊎ (place_of j 0 + most_states ≤ i)
-        → get_or row' i 0 ≡ get_or row i 0
+    elsewhere : {flags : List ℕ} → Added (place_of j 0) flags (set row (cell_at j) 1) row' → (i : ℕ) → i ≢ cell_at j
+        → (i < place_of j 0) ⊎ (place_of j 0 + most_states ≤ i) → get_or row' i 0 ≡ get_or row i 0
     elsewhere a i n o = ⊎_elim (λ (b : i < place_of j 0). a.before i b) (λ (b : place_of j 0 + most_states ≤ i). a.behind i b) o ∙ get_or-set_other row (cell_at j) i 1 0 n
 
     -- the places of another cell
@@ -100,7 +71,7 @@ module _ {m written output : List ℕ} where
       where
         go : Mark closures row j q row' → Dec (i ≡ j) → 0 < get_or row' (place_of i p) 0
         go (Mark.old y e) d = rw e k.mark
-        go (Mark.new a) (yes e) = rw e (rw (at_cell a p k.state) (either_first (get_or row (place_of j p) 0) _ (rw e at k.mark)))
+        go (Mark.new a) (yes e) = rw e (rw (at_cell a p k.state) (either_second (get_or closures (flag_at_of q p) 0) _ (rw e at k.mark)))
         go (Mark.new a) (no n) = rw (elsewhere a (place_of i p) (λ y. omega (arith, k.state)) (apart i p k.state n)) k.mark
 
     -- the closure of q is marked
@@ -115,7 +86,7 @@ module _ {m written output : List ℕ} where
         go (Mark.new a) =
             record {
               state = flag.second;
-              mark = rw (at_cell a p flag.second) (either_second (get_or row (place_of j p) 0) (get_or closures (flag_at_of q p) 0) flag.flag);
+              mark = rw (at_cell a p flag.second) (either_first (get_or closures (flag_at_of q p) 0) (get_or row (place_of j p) 0) flag.flag);
             }
 
     -- what is marked was marked, or is in the closure of q
@@ -127,9 +98,9 @@ module _ {m written output : List ℕ} where
         go (Mark.new a) (no n) =
             inl (record { state = k.state; mark = rw (elsewhere a (place_of i p) (λ y. omega (arith, k.state)) (apart i p k.state n)) at k.mark })
         go (Mark.new a) (yes e) =
-            ⊎_elim (λ (b : 0 < get_or row (place_of j p) 0). inl (rw e (record { state = k.state; mark = b })))
-            (λ (b : 0 < get_or closures (flag_at_of q p) 0). inr (e, closed.only q p (record { first = state; second = k.state; flag = b })))
-            (either_only (get_or row (place_of j p) 0) (get_or closures (flag_at_of q p) 0) (rw (e, at_cell a p k.state) at k.mark))
+            ⊎_elim (λ (b : 0 < get_or closures (flag_at_of q p) 0). inr (e, closed.only q p (record { first = state; second = k.state; flag = b })))
+            (λ (b : 0 < get_or row (place_of j p) 0). inl (rw e (record { state = k.state; mark = b })))
+            (either_only (get_or closures (flag_at_of q p) 0) (get_or row (place_of j p) 0) (rw (e, at_cell a p k.state) at k.mark))
 
     -- a row is a row then
     pub mark_row : j ≤ length output → Row m written output row'

@@ -6,17 +6,24 @@ use mathlib.Core.Logic.{⊎_elim}
 use Prim.Native.Nat.{ℕ, ◌+◌, ◌≤◌, ◌<◌}
 use native.Mathlib.Omega.{arith}
 use borrow.Author.Count.{below_more}
+use lib.ListN.{replicate, length-replicate}
 use Rattle.transducer.specs.Limits.{most_states}
 use Rattle.transducer.specs.StateSet.{has, In}
 use Rattle.transducer.specs.declared.StateSet.{StateSet}
 use Rattle.transducer.proofs.Facts.{in_below}
 use Rattle.closure.specs.Closure.{Silent}
+use Rattle.closure.proofs.FlagLaws.{fresh_clear}
+use Rattle.wordrows.specs.Limits.{row_places}
 use Rattle.wordrows.specs.Leads.{Lent}
 use Rattle.wordrows.specs.Rows.{Marked, Row, Blank, From, Started}
 use Rattle.wordrows.specs.Cells.{Mark}
 use Rattle.wordrows.proofs.MarkLaws.{mark_marked, mark_kept, mark_only, mark_row}
 use Rattle.wordrows.proofs.GrowLaws.{from_closure}
 use Rattle.wordrows.proofs.SweepLaws.{unmarked, blank_row}
+
+-- a fresh row has no mark
+pub fresh_blank : Blank (replicate row_places 0)
+fresh_blank = record { size = length-replicate {A = ℕ} row_places 0; clear = fresh_clear row_places }
 
 module _ (m written output : List ℕ) (starts : StateSet) where
   -- a start state at the front of the output word

@@ -1,5 +1,5 @@
 -- How the loops over the transitions of a state, the states of a cell, and the cells of a row begin, go on and end. Assumes nothing.
-use mathlib.Core.Path.{◌≡◌}
+use mathlib.Core.Path.{◌≡◌, subst}
 use mathlib.Core.List.{List}
 use mathlib.Core.Logic.{⊎_elim}
 use Prim.Native.Nat.{ℕ, ◌+◌, ◌≤◌, ◌<◌}
@@ -10,10 +10,14 @@ use lib.ListN.{length, get_or}
 use Rattle.transducer.specs.Limits.{most_states}
 use Rattle.product.specs.Machine.{Leaves, Follows}
 use Rattle.product.specs.Numbers.{no_transition}
-use Rattle.wordrows.specs.Leads.{Lent, Leads}
+use Rattle.wordrows.specs.Leads.{Ground, Lent, Leads}
 use Rattle.wordrows.specs.Rows.{cell_at, place_of, Marked, Row, Blank, From, Swept}
 use Rattle.wordrows.specs.Cells.{Grows, Done, Closed, Goes, Ready, Followed, Expanded, Filled}
 use Rattle.wordrows.proofs.GrowLaws.{from_join, grows_none, grows_both, done_kept, goes_none, goes_both}
+
+-- what rows are made of is right, said of the same lists
+pub ground_right : {g h : Ground} → g ≡ h → Lent g.m g.written g.closures g.output → Lent h.m h.written h.closures h.output
+ground_right e lent = subst (λ (g : Ground). Lent g.m g.written g.closures g.output) e lent
 
 module _ (m written output : List ℕ) (code : ℕ) where
   -- the transitions below l are done, from the state q at the position j

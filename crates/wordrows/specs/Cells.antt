@@ -1,5 +1,6 @@
 -- What the functions over one cell of a row leave.
-use Rattle.std.specs.Prelude.{◌≡◌, List, ◌⊎◌, ℕ, zero, suc, ◌+◌, ◌≤◌, ◌<◌, length, get_or, set}
+use Rattle.std.specs.Prelude.{◌≡◌, List, ◌⊎◌, ℕ, ◌+◌, ◌≤◌, ◌<◌, max, length, get_or, set}
+use Rattle.std.specs.List.{between}
 use Rattle.transducer.specs.Limits.{most_states}
 use Rattle.product.specs.Machine.{to_of}
 use Rattle.product.specs.Numbers.{no_transition}
@@ -10,22 +11,18 @@ use Rattle.wordrows.specs.Rows.{cell_at, place_of, Marked, Row, From, Entered}
 
 -- ---- one mark
 
--- the first number, or the second where the first is 0
-unfoldable pub either_of : ℕ → ℕ → ℕ
-either_of zero b = b
-either_of (suc a) b = suc a
-
--- what `add` leaves after n places: those from `to` on have a flag where they had one, or where the list of flags has one from `from` on
-pub record Added (to : ℕ) (flags : List ℕ) (from n : ℕ) (row row' : List ℕ) : Type 0 where
+-- what `add` leaves: the places from `to` on, one for each state, have a flag where they had one, or where the list of flags has one
+pub record Added (to : ℕ) (flags row row' : List ℕ) : Type 0 where
   pub size : length row' ≡ length row
-  pub here : (i : ℕ) → i < n → get_or row' (to + i) 0 ≡ either_of (get_or row (to + i) 0) (get_or flags (from + i) 0)
+  pub here : (i : ℕ) → i < most_states → get_or row' (to + i) 0 ≡ max (get_or flags i 0) (get_or row (to + i) 0)
   pub before : (i : ℕ) → i < to → get_or row' i 0 ≡ get_or row i 0
-  pub behind : (i : ℕ) → to + n ≤ i → get_or row' i 0 ≡ get_or row i 0
+  pub behind : (i : ℕ) → to + most_states ≤ i → get_or row' i 0 ≡ get_or row i 0
 
 -- what `mark` leaves where the state q of the cell j is to be marked: with it all states of its closure are
 pub data Mark (closures row : List ℕ) (j q : ℕ) (row' : List ℕ) : Type 0 where
   old : 0 < get_or row (place_of j q) 0 → row' ≡ row → Mark closures row j q row'
-  new : Added (place_of j 0) closures (flag_at_of q 0) most_states (set row (cell_at j) 1) row' → Mark closures row j q row'
+  new : Added (place_of j 0) (between (flag_at_of q 0) (flag_at_of q most_states) closures) (set row (cell_at j) 1) row'
+      → Mark closures row j q row'
 
 module _ (m written output : List ℕ) where
   -- ---- the rows grow

@@ -24,22 +24,16 @@ pub fn difference(x: &[u8], y: &[u8]) -> Comparison
     ensures { result ≡ difference_of x.now y.now }
 {
     let n = shared(x, y);
-    if n < x.len() {
-        if n < y.len() {
-            Comparison::Clash(n)
-        } else {
-            Comparison::FirstAhead
-        }
-    } else {
-        if n < y.len() {
-            Comparison::SecondAhead
-        } else {
-            Comparison::Level
-        }
+    match (n < x.len(), n < y.len()) {
+        (false, false) => Comparison::Level,
+        (true, false) => Comparison::FirstAhead,
+        (false, true) => Comparison::SecondAhead,
+        (true, true) => Comparison::Clash(n),
     }
 }
 
 // The number that a comparison carries: of a clash, how many codes the two words have in common at the beginning; otherwise 0.
+// Stays a number, 0 for none, and beside `kind` of `answers`: the documents' answer of a difference is these two numbers.
 pub fn carried(comparison: Comparison) -> usize
     ensures { result ≡ carried_of comparison }
 {
@@ -68,9 +62,5 @@ pub fn unmatched<'a>(x: &'a [u8], y: &'a [u8]) -> &'a [u8]
 pub fn shared(x: &[u8], y: &[u8]) -> usize
     ensures { result ≡ shared_of x.now y.now }
 {
-    let mut i = 0;
-    while i < x.len() && i < y.len() && x[i] == y[i] {
-        i += 1;
-    }
-    i
+    x.iter().zip(y.iter()).take_while(|(a, b)| a == b).count()
 }

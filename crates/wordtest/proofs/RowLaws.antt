@@ -4,23 +4,12 @@ use mathlib.Core.Path.{◌≡◌, refl}
 use mathlib.Core.Bool.{Bool, true}
 use mathlib.Core.List.{List}
 use mathlib.Core.Logic.{◌↔◌}
-use Prim.Native.Nat.{ℕ, zero, suc, ◌+◌, ◌<◌}
+use Prim.Native.Nat.{ℕ, ◌+◌, ◌<◌}
 use native.Mathlib.Omega.{arith}
-use lib.ListN.{length, get_or, replicate, length-replicate}
+use lib.ListN.{length, get_or}
 use Rattle.transducer.specs.declared.StateSet.{StateSet}
-use Rattle.wordrows.specs.Limits.{row_places}
-use Rattle.wordrows.specs.Rows.{Marked, Row, Blank, Ends, From, Started, Entered, Swept}
+use Rattle.wordrows.specs.Rows.{Marked, Row, Ends, From, Started, Entered, Swept}
 use Rattle.wordtest.specs.Nodes.{Comes, Arrives}
-
--- a fresh list holds 0 everywhere
-pub fresh_clear : (n i : ℕ) → ◌≡◌ {A = ℕ} (get_or (replicate n 0) i 0) 0
-fresh_clear zero i = refl
-fresh_clear (suc n) zero = refl
-fresh_clear (suc n) (suc i) = fresh_clear n i
-
--- so a fresh row has no mark
-pub fresh_blank : Blank (replicate row_places 0)
-fresh_blank = record { size = length-replicate {A = ℕ} row_places 0; clear = fresh_clear row_places }
 
 module _ (m written : List ℕ) (starts : StateSet) (input output : List ℕ) where
   -- the row for the position i, before it is closed

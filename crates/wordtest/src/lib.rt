@@ -8,141 +8,66 @@ ghost use Rattle.transducer.specs.Transition.{word_of, output_word_of};
 ghost use Rattle.transducer.specs.Valid.{Valid};
 ghost use Rattle.transducer.specs.Paths.{Relates};
 ghost use Rattle.wordrows.specs.Limits.{most_output};
-ghost use Rattle.wordrows.specs.Leads.{Lent};
-ghost use Rattle.wordtest.specs.Numbers.{number_of, says_yes};
 ghost use Rattle.wordtest.specs.Tested.{Tested};
 ghost use Rattle.wordtest.specs.Nodes.{Arrives};
 
-use product::machine;
-use transducer::{StateSet, Transducer, codes, refusals};
-use wordrows::limits;
-
-// What the test answers; specs/Numbers.antt gives the documents' number of each.
-#[derive(Clone, Copy)]
-pub enum Acceptance {
-    Yes,
-    No,
-    Invalid,
-    WordsTooLong,
-    NoInputCode,
-    NoOutputCode,
-}
-
-impl Acceptance {
-    // The documents' number of the answer, 0 where nothing is refused.
-    pub fn number(self) -> u8
-        ensures { result ≡ number_of self }
-    {
-        match self {
-            Acceptance::Yes => 0,
-            Acceptance::No => 0,
-            Acceptance::Invalid => refusals::INVALID,
-            Acceptance::WordsTooLong => refusals::WORDS_TOO_LONG,
-            Acceptance::NoInputCode => refusals::NO_INPUT_CODE,
-            Acceptance::NoOutputCode => refusals::NO_OUTPUT_CODE,
-        }
-    }
-
-    // Whether the answer is yes.
-    pub fn yes(self) -> bool
-        ensures { result ≡ says_yes self }
-    {
-        match self {
-            Acceptance::Yes => true,
-            Acceptance::No => false,
-            Acceptance::Invalid => false,
-            Acceptance::WordsTooLong => false,
-            Acceptance::NoInputCode => false,
-            Acceptance::NoOutputCode => false,
-        }
-    }
-}
+use closure::Closures;
+use outputs::Outputs;
+use product::machine::Machine;
+use transducer::refusals::Refusal;
+use transducer::{StateSet, Transducer, codes};
+use wordrows::{Cells, Rows, limits};
 
 // Whether some accepting path reads the word `input` and writes the word `output`; or a refusal.
-pub fn accepts(t: Transducer, input: &[u8], output: &[u8]) -> Acceptance
+pub fn accepts(t: Transducer, input: &[u8], output: &[u8]) -> Result<bool, Refusal>
     ensures { Tested t input.now output.now result }
 {
     if !useful::accepted(t) {
-        return Acceptance::Invalid;
+        return Err(Refusal::Invalid);
     }
     if !((input.len() <= limits::INPUT) & (output.len() <= limits::OUTPUT)) {
-        return Acceptance::WordsTooLong;
+        return Err(Refusal::WordsTooLong);
     }
     if !codes::all(input) {
-        return Acceptance::NoInputCode;
+        return Err(Refusal::NoInputCode);
     }
     if !codes::all(output) {
-        return Acceptance::NoOutputCode;
+        return Err(Refusal::NoOutputCode);
     }
-    if related(t, input, output) {
-        return Acceptance::Yes;
-    }
-    Acceptance::No
+    Ok(related(t, input, output))
 }
 
 // The answer for words that are not refused: the search runs over the machine of t, what its transitions write, and the closures of its states.
+#[inline(never)]
 fn related(t: Transducer, input: &[u8], output: &[u8]) -> bool
     requires valid { Valid t }
     requires input_value { all_codes input.now ≡ true }
     requires output_len_bound { length output.now ≤ most_output }
     ensures { (result ≡ true) ↔ Relates t (word_of input.now) (output_word_of output.now) }
 {
-    let mut m = [0u16; machine::PLACES];
-    let mut written = [0u8; outputs::WRITTEN];
-    let starts = t.starts;
-    let finals = t.finals;
-    let mut closures = [0u8; closure::FLAGS];
-    machine::by_input(t, &mut m);
-    outputs::fill(t, &mut written);
-    closure::close(&m, &written, &mut closures);
-    arrives(&m, &written, &closures, starts, finals, input, output)
+    let m = Machine::by_input(t);
+    let written = Outputs::of(t);
+    let closures = Closures::new(&m, &written);
+    let rows = Rows::new(&m, &written, &closures, output);
+    arrives(&rows, t.starts, t.finals, input)
 }
 
-// A code that no transition reads.
+// A code that no transition reads. Stays a number: as an Option it would be matched for each transition of the search, and the rows mean the same.
 const NO_CODE: u16 = 255;
 
 // Whether the search comes to the end of both words in a final state. Each row is closed and the next one entered; the last is closed with no code to read.
-fn arrives(
-    m: &[u16],
-    written: &[u8],
-    closures: &[u8],
-    starts: StateSet,
-    finals: StateSet,
-    input: &[u8],
-    output: &[u8],
-) -> bool
-    requires lent { Lent m.now written.now closures.now output.now }
-    requires input_value { all_codes input.now ≡ true }
+fn arrives(rows: &Rows, starts: StateSet, finals: StateSet, input: &[u8]) -> bool
+    requires { all_codes input.now ≡ true }
     ensures { (result ≡ true)
-        ↔ Arrives m.now written.now starts finals input.now output.now }
+        ↔ Arrives rows.now.m rows.now.written starts finals input.now rows.now.output }
 {
-    let mut here = [0u8; limits::ROW];
-    wordrows::start(m, written, closures, output, starts, &mut here);
-    let mut i = 0;
-    while i < input.len() {
-        let code = input[i];
-        let mut next = [0u8; limits::ROW];
-        wordrows::sweep(
-            m,
-            written,
-            closures,
-            output,
-            code as u16,
-            &mut here,
-            &mut next,
-        );
+    let mut here = rows.start(starts);
+    for code in input {
+        let mut next = Cells::blank();
+        rows.sweep(u16::from(*code), &mut here, &mut next);
         here = next;
-        i += 1;
     }
-    let mut beyond = [0u8; limits::ROW];
-    wordrows::sweep(
-        m,
-        written,
-        closures,
-        output,
-        NO_CODE,
-        &mut here,
-        &mut beyond,
-    );
-    wordrows::ends(finals, &here, output.len())
+    let mut beyond = Cells::blank();
+    rows.sweep(NO_CODE, &mut here, &mut beyond);
+    here.ends(finals, rows.end())
 }

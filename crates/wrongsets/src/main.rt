@@ -4,18 +4,14 @@
 // verdict, translate, word test, join before and behind a table that is right, append, remove, useful states, useful pairs.
 #![tactic(auto)]
 
-use transducer::{StateSet, Transducer, Transition, limits};
+use std::fmt::{InlineText, Write};
+use transducer::limits::STATES;
+use transducer::refusals::Refusal;
+use transducer::{StateSet, Transducer, Transition};
+use witness::Lent;
 
-// The calls.
-const CALLS: usize = 10;
-// The bytes of a name.
-const NAME: usize = 8;
-// Where the look begins in a line: behind the name and the numbers, of three bytes each.
-const LOOK: usize = NAME + CALLS * 3;
-// The states that the look is asked for.
-const SHOWN: usize = limits::STATES;
-// The bytes of a line: the look has a space before it and a line end behind it.
-const LINE: usize = LOOK + SHOWN + 2;
+// The bytes of a line: the name, a number of three bytes for each of the ten calls, a space, the look with a flag for each state, and the line's end.
+const LINE: usize = 8 + 10 * 3 + 1 + STATES + 1;
 
 fn main(rt: HostRuntime) {
     right_and_none(&rt);
@@ -29,26 +25,26 @@ fn main(rt: HostRuntime) {
 // The one state that is start and final, and no state.
 fn right_and_none(rt: &HostRuntime) {
     let none = StateSet::empty();
-    show(rt, b"right   ", with_set(one_state(), none.with(0)));
-    show(rt, b"none    ", with_set(one_state(), none));
+    show(rt, "right   ", with_set(one_state(), none.with(0)));
+    show(rt, "none    ", with_set(one_state(), none));
 }
 
 // With it, states that the table does not have.
 fn too_many(rt: &HostRuntime) {
     let none = StateSet::empty();
     let zero = none.with(0);
-    show(rt, b"beyond n", with_set(one_state(), zero.with(1)));
-    show(rt, b"and 31  ", with_set(one_state(), zero.with(31)));
+    show(rt, "beyond n", with_set(one_state(), zero.with(1)));
+    show(rt, "and 31  ", with_set(one_state(), zero.with(31)));
 }
 
 // A second state, which does not finish: left out, and kept with all that is reached.
 fn dead_end(rt: &HostRuntime) {
     let none = StateSet::empty();
     let zero = none.with(0);
-    show(rt, b"dead end", with_set(with_dead_end(one_state()), zero));
+    show(rt, "dead end", with_set(with_dead_end(one_state()), zero));
     show(
         rt,
-        b"reached ",
+        "reached ",
         with_set(with_dead_end(one_state()), zero.with(1)),
     );
 }
@@ -59,26 +55,24 @@ fn broken(rt: &HostRuntime) {
     let zero = none.with(0);
     let mut t = one_state();
     t.states = 40;
-    show(rt, b"n is 40 ", with_set(t, zero.with(31)));
+    show(rt, "n is 40 ", with_set(t, zero.with(31)));
 }
 
 // The blank table, with its own set, and with its state.
 fn blank(rt: &HostRuntime) {
     let none = StateSet::empty();
-    show(rt, b"blank   ", with_set(transducer::blank(), none));
-    show(rt, b"blank, 0", with_set(transducer::blank(), none.with(0)));
+    show(rt, "blank   ", with_set(transducer::blank(), none));
+    show(rt, "blank, 0", with_set(transducer::blank(), none.with(0)));
 }
 
 // What an edit and a join make: start 0, final 1 and a line between them, that line removed again, and the table before one state.
 fn made(rt: &HostRuntime) {
     let none = StateSet::empty();
-    show(rt, b"appended", appended());
-    let edited = edits::remove(appended(), 0);
-    let removed = edited.table;
-    show(rt, b"removed ", removed);
-    let joined = series::join(appended(), with_set(one_state(), none.with(0)));
-    let table = joined.table;
-    show(rt, b"joined  ", table);
+    let table = appended();
+    show(rt, "appended", table);
+    show(rt, "removed ", edits::remove(table, 0).unwrap_or(table));
+    let joined = series::join(table, with_set(one_state(), none.with(0)));
+    show(rt, "joined  ", joined.unwrap_or(transducer::blank()));
 }
 
 // Start 0, final 1, to which an edit appends a line from 0 to 1 that reads and writes nothing.
@@ -90,9 +84,7 @@ fn appended() -> Transducer {
     t.finals = none.with(1);
     let mut v = Transition::clear();
     v.to = 1;
-    let edited = edits::append(t, v);
-    let table = edited.table;
-    table
+    edits::append(t, v).unwrap_or(t)
 }
 
 // One state, start and final.
@@ -122,52 +114,59 @@ fn with_set(mut t: Transducer, useful: StateSet) -> Transducer {
 }
 
 // Prints the line of t.
-fn show(rt: &HostRuntime, name: &[u8; NAME], t: Transducer) {
-    let mut line = [b' '; LINE];
-    for i in 0..NAME {
-        line[i] = name[i];
+fn show(rt: &HostRuntime, name: &str, t: Transducer) {
+    let mut line = InlineText::<LINE>::new();
+    // Each line has room for all that is put into it.
+    let _name = write!(line, "{name}");
+    for number in numbers(t) {
+        let _number = write!(line, " {number:02}");
     }
-    let numbers = numbers(t);
-    for i in 0..CALLS {
-        line[NAME + i * 3 + 1] = b'0' + numbers[i] / 10 % 10;
-        line[NAME + i * 3 + 2] = b'0' + numbers[i] % 10;
+    let _space = write!(line, " ");
+    for shown in panel::look(t).member {
+        let flag = shown as u8;
+        let _flag = write!(line, "{flag}");
     }
-    let look = panel::look(t);
-    for q in 0..SHOWN {
-        line[LOOK + 1 + q] = flag(look.contains(q as u8));
-    }
-    line[LINE - 1] = b'\n';
+    let _end = writeln!(line, "");
     let output = rt.stdout();
     let errors = rt.stderr();
-    streams::write(&output, &errors, b"wrongsets: standard output", &line);
-}
-
-// 1 for a state that is shown, else 0.
-fn flag(shown: bool) -> u8 {
-    if shown { b'1' } else { b'0' }
+    streams::write(
+        &output,
+        &errors,
+        b"wrongsets: standard output",
+        line.as_str().as_bytes(),
+    );
 }
 
 // The numbers that the calls answer of t.
-fn numbers(t: Transducer) -> [u8; CALLS] {
+fn numbers(t: Transducer) -> [u8; 10] {
+    let one = with_set(one_state(), StateSet::empty().with(0));
     [
         of_write(t),
         of_verdict(t),
         of_translate(t),
         of_test(t),
-        of_join(t, true),
-        of_join(t, false),
-        of_append(t),
-        of_remove(t),
-        of_states(t),
-        of_pairs(t),
+        number(series::join(t, one)),
+        number(series::join(one, t)),
+        number(edits::append(t, Transition::clear())),
+        number(edits::remove(t, 0)),
+        number(useful::useful_states(t)),
+        number(pairs::useful_pairs(t)),
     ]
+}
+
+// The number of an answer: its refusal's, 0 where there is none.
+// Stays beside `of_file` of `answers`, whose number has the record's in it.
+fn number<A: Drop>(answer: Result<A, Refusal>) -> u8 {
+    match answer {
+        Ok(_) => 0,
+        Err(refusal) => refusal.number(),
+    }
 }
 
 // The number of the writer's answer.
 fn of_write(t: Transducer) -> u8 {
     let mut out = [0u8; 100];
-    let writing = tablewriter::write(t, &mut out);
-    writing.number()
+    number(tablewriter::write(t, &mut out))
 }
 
 // The number of the verdict.
@@ -177,70 +176,23 @@ fn of_verdict(t: Transducer) -> u8 {
     let mut path_b = [0u16; witness::STEPS];
     let mut output_x = [0u8; witness::CODES];
     let mut output_y = [0u8; witness::CODES];
-    let verdict = functionality::decide(
-        t,
-        &mut word,
-        &mut path_a,
-        &mut path_b,
-        &mut output_x,
-        &mut output_y,
-    );
-    let outcome = verdict.outcome;
-    outcome.number()
+    let mut lent = Lent {
+        word: &mut word,
+        path_a: &mut path_a,
+        path_b: &mut path_b,
+        output_x: &mut output_x,
+        output_y: &mut output_y,
+    };
+    number(functionality::decide(t, &mut lent))
 }
 
 // The number of the translation of the empty word.
 fn of_translate(t: Transducer) -> u8 {
-    let word = [0u8; 0];
     let mut out = [0u8; 10];
-    let translation = translator::translate(t, &word, &mut out);
-    translation.number()
+    number(translator::translate(t, &[], &mut out))
 }
 
 // The number of the word test of two empty words.
 fn of_test(t: Transducer) -> u8 {
-    let word = [0u8; 0];
-    let acceptance = wordtest::accepts(t, &word, &word);
-    acceptance.number()
-}
-
-// The number of the join with one state, start and final, that keeps itself: before it, or behind it.
-fn of_join(t: Transducer, before: bool) -> u8 {
-    let none = StateSet::empty();
-    let other = with_set(one_state(), none.with(0));
-    let joined = if before {
-        series::join(t, other)
-    } else {
-        series::join(other, t)
-    };
-    let outcome = joined.outcome;
-    outcome.number()
-}
-
-// The number of an edit that appends a line from 0 to 0.
-fn of_append(t: Transducer) -> u8 {
-    let edited = edits::append(t, Transition::clear());
-    let outcome = edited.outcome;
-    outcome.number()
-}
-
-// The number of an edit that removes line 0.
-fn of_remove(t: Transducer) -> u8 {
-    let edited = edits::remove(t, 0);
-    let outcome = edited.outcome;
-    outcome.number()
-}
-
-// The number of the useful states.
-fn of_states(t: Transducer) -> u8 {
-    let found = useful::useful_states(t);
-    let outcome = found.outcome;
-    outcome.number()
-}
-
-// The number of the useful pairs.
-fn of_pairs(t: Transducer) -> u8 {
-    let found = pairs::useful_pairs(t);
-    let outcome = found.outcome;
-    outcome.number()
+    number(wordtest::accepts(t, &[], &[]))
 }

@@ -7,23 +7,22 @@ use Rattle.edits.proofs.append.Goals as goal
 pub returns-then-not-accepted : goal.returns-then-not-accepted
 returns-then-not-accepted c =
     let asked = c.accepted.ensures in
-    not_accepted _ _ asked.shaped (sym asked.answer ∙ c.if-not-accepted.true) c.handed_back.ensures
+    not_accepted _ _ asked.shaped (sym asked.answer ∙ c.if-not-accepted.true)
 
 pub returns-then-not-line_ok : goal.returns-then-not-line_ok
 returns-then-not-line_ok c =
     let asked = c.accepted.ensures in
     edit_refused _ _ asked.shaped (sym asked.answer ∙ c.if-not-accepted.false) (λ z. omega arith)
-    (wrong_line _ _ _ (sym c.line_ok.ensures.value ∙ c.if-not-line_ok.true)) c.handed_back-then-not-line_ok.ensures
+    (wrong_line _ _ _ (sym c.line_ok.ensures.value ∙ c.if-not-line_ok.true))
 
 pub returns-then-t-ge-TRANSITIONS : goal.returns-then-t-ge-TRANSITIONS
 returns-then-t-ge-TRANSITIONS c =
     let asked = c.accepted.ensures in
     edit_refused _ _ asked.shaped (sym asked.answer ∙ c.if-not-accepted.false) (λ z. omega arith)
     (no_room _ _ _ (sym c.line_ok.ensures.value ∙ c.if-not-line_ok.false) (omega (arith, lines_long c.args.t)))
-    c.handed_back-then-t-ge-TRANSITIONS.ensures
 
-pub with_last-table-requires-clause-used : goal.with_last-table-requires-clause-used
-with_last-table-requires-clause-used c = (line_exactly _ _).0 (sym c.line_ok.ensures.value ∙ c.if-not-line_ok.false)
+pub with_last-requires-clause-used : goal.with_last-requires-clause-used
+with_last-requires-clause-used c = (line_exactly _ _).0 (sym c.line_ok.ensures.value ∙ c.if-not-line_ok.false)
 
 pub returns : goal.returns
 returns c =
@@ -32,5 +31,5 @@ returns c =
     let asked = c.accepted.ensures in
     edit_done _ _ (sym asked.answer ∙ c.if-not-accepted.false)
     (line_taken _ _ _ (sym c.line_ok.ensures.value ∙ c.if-not-line_ok.false) (omega (arith, lines_long t)))
-    (c.with_last-table.ensures ∙ sym (append_makes t v))
+    (c.with_last.ensures ∙ sym (append_makes t v))
     (rw (append_makes t v) (appended_shaped t v asked.shaped (omega arith) c.line_ok.ensures.output_len))

@@ -8,13 +8,13 @@ use Rattle.edits.proofs.remove.Goals as goal
 pub returns-then-not-accepted : goal.returns-then-not-accepted
 returns-then-not-accepted c =
     let asked = c.accepted.ensures in
-    not_accepted _ _ asked.shaped (sym asked.answer ∙ c.if-not-accepted.true) c.handed_back.ensures
+    not_accepted _ _ asked.shaped (sym asked.answer ∙ c.if-not-accepted.true)
 
 pub returns-then-t-l : goal.returns-then-t-l
 returns-then-t-l c =
     let asked = c.accepted.ensures in
     edit_refused _ _ asked.shaped (sym asked.answer ∙ c.if-not-accepted.false) (λ z. omega arith)
-    (no_such_line _ _ _ (omega (arith, lines_long c.args.t))) c.handed_back-then-t-l.ensures
+    (no_such_line _ _ _ (omega (arith, lines_long c.args.t)))
 
 pub returns : goal.returns
 returns c =
@@ -22,5 +22,5 @@ returns c =
     let l = c.args.l in
     let asked = c.accepted.ensures in
     let accepted = sym asked.answer ∙ c.if-not-accepted.false in
-    edit_done _ _ accepted (line_there _ _ _ (omega (arith, lines_long t))) (c.close_up-table.ensures ∙ sym (remove_makes t l))
+    edit_done _ _ accepted (line_there _ _ _ (omega (arith, lines_long t))) (c.close_up.ensures ∙ sym (remove_makes t l))
     (rw (remove_makes t l) (removed_shaped t l (accepted_valid t accepted) asked.shaped (omega arith)))

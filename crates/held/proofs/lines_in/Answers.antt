@@ -18,7 +18,7 @@ unfolding line_at
 loop-l-preserved c =
     let l = c.loop-l in
     let held = c.args.held.now in (
-      fill_turn (line_at held) l.transitions l.l _ (omega arith) l.invariant.0 (c.line_in.ensures ∙ ap transition_with (rest held (lines_at + l.l * most_fields))),
+      fill_turn (line_at held) l.line-items l.l _ (omega arith) l.invariant.0 (c.line_in.ensures ∙ ap transition_with (rest held (lines_at + l.l * most_fields))),
       simp length-set l.invariant.1,
     )
 
@@ -26,4 +26,4 @@ pub returns : goal.returns
 unfolding lines_in_of
 returns c =
     let l = c.loop-l in
-    filled_all (line_at c.args.held.now) l.transitions l.l most_transitions (omega arith) l.invariant.1 l.invariant.0
+    filled_all (line_at c.args.held.now) l.line-items l.l most_transitions (omega arith) l.invariant.1 l.invariant.0

@@ -6,4 +6,4 @@ use Rattle.held.proofs.lines_in.Given as goal
 
 -- the lines below l are read
 abbrev pub invariant-loop-l : goal.invariant-loop-l
-invariant-loop-l l = (take l.l l.transitions ≡ firsts l.l (line_at l.held)) × (length l.transitions ≡ most_transitions)
+invariant-loop-l l = (take l.l l.line-items ≡ firsts l.l (line_at l.held)) × (length l.line-items ≡ most_transitions)

@@ -5,12 +5,12 @@ use Rattle.transducer.specs.Transition.{outside}
 use Rattle.held.specs.Held.{line_bytes, lines_bytes}
 use Rattle.held.proofs.put_lines.Goals as goal
 
-pub loop-l-init : goal.loop-l-init
+pub loop-v-init : goal.loop-v-init
 unfolding lines_bytes
-loop-l-init c = parts_none (below_items line_bytes outside c.args.t.transitions) c.requires.room
+loop-v-init c = parts_none (below_items line_bytes outside c.args.t.transitions) c.requires.room
 
 pub put_line-at-requires : goal.put_line-at-requires
-put_line-at-requires c = part_room c.loop-l.invariant (omega (arith, c.requires.shaped.transitions))
+put_line-at-requires c = part_room c.loop-v.invariant (omega (arith, c.requires.shaped.transitions))
 
-pub loop-l-preserved : goal.loop-l-preserved
-loop-l-preserved c = part_next c.loop-l.invariant (omega (arith, c.requires.shaped.transitions)) c.put_line-at.ensures
+pub loop-v-preserved : goal.loop-v-preserved
+loop-v-preserved c = part_next c.loop-v.invariant (omega (arith, c.requires.shaped.transitions)) c.put_line-at.ensures

@@ -14,11 +14,11 @@ loop-q-init c = (refl, refl)
 pub loop-q-preserved : goal.loop-q-preserved
 loop-q-preserved c =
     let l = c.loop-q in
-    (fill_turn (flag c.args.held.now c.args.at) l.member l.q _ (omega arith) l.invariant.0 refl, simp length-set l.invariant.1)
+    (fill_turn (flag c.args.held.now c.args.at) l.inside-items l.q _ (omega arith) l.invariant.0 refl, simp length-set l.invariant.1)
 
 pub returns : goal.returns
 unfolding set_at
 returns c =
     let l = c.loop-q in
-    let all = filled_all (flag c.args.held.now c.args.at) l.member l.q most_states (omega arith) l.invariant.1 l.invariant.0 in
+    let all = filled_all (flag c.args.held.now c.args.at) l.inside-items l.q most_states (omega arith) l.invariant.1 l.invariant.0 in
     cc

@@ -9,4 +9,4 @@ flag held at q = eqb (get_or held (at + q) 0) 1
 
 -- the flags below q are read
 abbrev pub invariant-loop-q : goal.invariant-loop-q
-invariant-loop-q l = (take l.q l.member ≡ firsts l.q (flag l.held l.at)) × (length l.member ≡ most_states)
+invariant-loop-q l = (take l.q l.inside-items ≡ firsts l.q (flag l.held l.at)) × (length l.inside-items ≡ most_states)

@@ -6,9 +6,9 @@ pub returns : goal.returns
 unfolding table_in_of
 returns c = λ i. record {
   states = c.states_in.ensures i;
-  starts = c.set_at-starts.ensures i;
-  finals = c.set_at-finals.ensures i;
+  starts = c.set_at.ensures i;
+  finals = c.set_at-2.ensures i;
   count = c.count_in.ensures i;
-  transitions = c.lines_in-lines.ensures i;
-  useful = c.set_at-useful.ensures i;
+  transitions = c.lines_in.ensures i;
+  useful = c.set_at-3.ensures i;
 }

@@ -9,11 +9,10 @@ pub returns : goal.returns
 unfolding reversed_of
 returns c =
     let a = c.requires in
-    let r = c.reverse.ensures in
     pairs_found
     (record { valid = a.valid; valid' = a.valid_2; one_code = a.first_value; image = a.image_of; image' = a.image_of_2 })
-    r.image_of
-    r.image_of_2
+    c.reversed-left.ensures.image_of
+    c.reversed-left.ensures.image_of_2
     (marked_states a.valid.few_states a.valid_2.few_states c.mark_states.ensures)
-    c.find.ensures
-    c.find-2.ensures
+    c.found-reached.ensures
+    (rw (c.new.ensures.left, c.new.ensures.right) at c.found.ensures)

@@ -1,5 +1,5 @@
 -- `ways_in` meets its contract: the search finds the useful pairs again, and the ways in are read off it. Assumes nothing.
-use mathlib.Core.Path.{◌∙◌}
+use Rattle.std.proofs.Common.{arith}
 use Rattle.transducer.proofs.AcceptedLaws.{accepted_valid}
 use Rattle.pairs.proofs.UsefulLaws.{exact_image}
 use Rattle.pairs.proofs.TreeLaws.{tree_in}
@@ -10,5 +10,7 @@ use Rattle.pairs.proofs.ways_in.Goals as goal
 pub returns : goal.returns
 returns c =
     let r = c.requires in
-    let tree = tree_in (accepted_valid _ r.t_value) (marked_useful r.t_value r.useful_pairs_of c.mark.ensures) (exact_image r.image_of c.search-n.ensures) in
-    useful_way r.t_value tree c.links.ensures (c.links.auto.link ∙ r.into_len) r.useful_pairs_of
+    let tree =
+    tree_in (accepted_valid _ r.t_value) (marked_useful r.t_value r.useful_pairs_of c.mark-allowed.ensures)
+    (exact_image r.image_of (rw (c.new.ensures.left, c.new.ensures.right) at c.search.ensures)) in
+    useful_way r.t_value tree c.along.ensures (omega arith) r.useful_pairs_of

@@ -6,16 +6,16 @@ use Rattle.pathwords.proofs.WordLaws.{length_codes}
 use Rattle.pathwords.proofs.WritingLaws.{input_parts}
 use Rattle.pathwords.proofs.input.Goals as goal
 
-pub loop-i-init : goal.loop-i-init
-loop-i-init c =
+pub loop-l-init : goal.loop-l-init
+loop-l-init c =
     parts_none (input_parts c.args.t c.args.path.now) (record { room = omega (arith, length_codes (reads c.args.t c.args.path.now)) })
 
 pub put_input-at-requires : goal.put_input-at-requires
-put_input-at-requires c = part_room c.loop-i.invariant c.loop-i-test.true
+put_input-at-requires c = part_room c.loop-l.invariant c.loop-l-test.true
 
-pub loop-i-preserved : goal.loop-i-preserved
-loop-i-preserved c = part_next c.loop-i.invariant c.loop-i-test.true c.put_input-at.ensures
+pub loop-l-preserved : goal.loop-l-preserved
+loop-l-preserved c = part_next c.loop-l.invariant c.loop-l-test.true c.put_input-at.ensures
 
 pub returns-clause-value : goal.returns-clause-value
 returns-clause-value c =
-    omega (arith, length_codes (reads c.args.t c.args.path.now), (parts_all c.loop-i.invariant c.loop-i-test.false).place)
+    omega (arith, length_codes (reads c.args.t c.args.path.now), (parts_all c.loop-l.invariant c.loop-l-test.false).place)

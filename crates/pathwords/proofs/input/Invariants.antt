@@ -6,5 +6,5 @@ use Rattle.pathwords.proofs.WritingLaws.{codes_at}
 use Rattle.pathwords.proofs.input.Given as goal
 
 -- what the transitions below place i of the path read is put
-abbrev pub invariant-loop-i : goal.invariant-loop-i
-invariant-loop-i l = Parts (input_bytes_of (reads l.t l.path)) (λ i. codes_at l.t (get_or l.path i 0)) (length l.path) l.fn.word 0 l.i l.word l.at
+abbrev pub invariant-loop-l : goal.invariant-loop-l
+invariant-loop-l l = Parts (input_bytes_of (reads l.t l.path)) (λ i. codes_at l.t (get_or l.path i 0)) (length l.path) l.fn.word 0 l.l-index l.word l.at

@@ -6,5 +6,5 @@ use Rattle.pathwords.proofs.WritingLaws.{bytes_at}
 use Rattle.pathwords.proofs.output.Given as goal
 
 -- what the transitions below place i of the path write is put
-abbrev pub invariant-loop-i : goal.invariant-loop-i
-invariant-loop-i l = Parts (bytes_of (writes l.t l.path)) (λ i. bytes_at l.t (get_or l.path i 0)) (length l.path) l.fn.out 0 l.i l.out l.at
+abbrev pub invariant-loop-l : goal.invariant-loop-l
+invariant-loop-l l = Parts (bytes_of (writes l.t l.path)) (λ i. bytes_at l.t (get_or l.path i 0)) (length l.path) l.fn.out 0 l.l-index l.out l.at

@@ -5,13 +5,11 @@ use Rattle.report.specs.Report.{lent_output}
 use Rattle.report.proofs.ReportLaws.{refusal_report, output_report}
 use Rattle.report.proofs.translation.Goals as goal
 
-pub returns-then-number-ne0 : goal.returns-then-number-ne0
+pub returns-in-Err : goal.returns-in-Err
 unfolding lent_output
-returns-then-number-ne0 c =
-    refusal_report (simp sub-zero at c.translate_file-answer.ensures) (omega arith) c.if-number-ne0.true c.list_refusal.ensures
+returns-in-Err c = refusal_report (simp sub-zero at c.translate_file.ensures) (omega arith) c.in-Err.is c.list_refused.ensures
 
-pub returns : goal.returns
+pub returns-in-Ok : goal.returns-in-Ok
 unfolding lent_output
-returns c =
-    output_report (simp sub-zero at c.translate_file-answer.ensures) (omega arith) c.if-number-ne0.false
-    (rw sub-zero at c.list_translation.ensures)
+returns-in-Ok c =
+    output_report (simp sub-zero at c.translate_file.ensures) (omega arith) c.in-Ok.is (rw sub-zero at c.list_translation.ensures)

@@ -20,10 +20,10 @@ pub returns-then-input-lt-SHORT : goal.returns-then-input-lt-SHORT
 returns-then-input-lt-SHORT c =
     answers
     (refusal_none _ _ (sym c.accepted.ensures.answer ∙ c.if-not-accepted.false) c.if-input-gt-WORD.false (sym c.all.ensures ∙ c.if-not-all.false))
-    c.short.ensures.outcome c.short.ensures.unchanged
+    c.answer.ensures.outcome c.answer.ensures.unchanged
 
 pub returns : goal.returns
 returns c =
     answers
     (refusal_none _ _ (sym c.accepted.ensures.answer ∙ c.if-not-accepted.false) c.if-input-gt-WORD.false (sym c.all.ensures ∙ c.if-not-all.false))
-    c.long.ensures.outcome c.long.ensures.unchanged
+    c.answer-2.ensures.outcome c.answer-2.ensures.unchanged

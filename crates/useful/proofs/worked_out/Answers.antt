@@ -6,6 +6,6 @@ use Rattle.useful.proofs.worked_out.Goals as goal
 pub returns : goal.returns
 returns c =
     set_worked_out _ c.requires c.common.ensures.long
-    (useful_members c.steps.ensures.steps_of c.steps.ensures.steps_of_2
-    c.number-starts.ensures c.number-finals.ensures
+    (useful_members c.steps.ensures.ahead c.steps.ensures.back
+    c.number.ensures c.number-2.ensures
     c.reached-into.ensures c.reached-out.ensures c.common.ensures)

@@ -1,37 +1,37 @@
--- Each branch knows which of the rests past the common beginning are empty.
+-- Each arm knows which of the rests past the common beginning are empty.
 use lib.ListN.{drop_of_length-le}
 use lib.Seq.{drop-cons}
 use Rattle.words.proofs.Stripped.{stripped}
 use Rattle.words.proofs.difference.Goals as goal
 
-pub returns-then-n-y : goal.returns-then-n-y
-returns-then-n-y c =
+pub returns-in-true-true : goal.returns-in-true-true
+returns-in-true-true c =
     rw (
       (stripped c.args.x.now c.args.y.now c.shared-n.ensures).compares,
-      drop-cons c.args.x.now _ 0 c.if-n-x.true,
-      drop-cons c.args.y.now _ 0 c.if-n-y.true,
+      drop-cons c.args.x.now _ 0 c.in-true-true.is-0,
+      drop-cons c.args.y.now _ 0 c.in-true-true.is-1,
     )
 
-pub returns-else-n-y : goal.returns-else-n-y
-returns-else-n-y c =
+pub returns-in-true-false : goal.returns-in-true-false
+returns-in-true-false c =
     rw (
       (stripped c.args.x.now c.args.y.now c.shared-n.ensures).compares,
-      drop-cons c.args.x.now _ 0 c.if-n-x.true,
-      drop_of_length-le c.args.y.now c.if-n-y.false,
+      drop-cons c.args.x.now _ 0 c.in-true-false.is-0,
+      drop_of_length-le c.args.y.now c.in-true-false.is-1,
     )
 
-pub returns-then-n-y-2 : goal.returns-then-n-y-2
-returns-then-n-y-2 c =
+pub returns-in-false-true : goal.returns-in-false-true
+returns-in-false-true c =
     rw (
       (stripped c.args.x.now c.args.y.now c.shared-n.ensures).compares,
-      drop_of_length-le c.args.x.now c.if-n-x.false,
-      drop-cons c.args.y.now _ 0 c.if-n-y-2.true,
+      drop_of_length-le c.args.x.now c.in-false-true.is-0,
+      drop-cons c.args.y.now _ 0 c.in-false-true.is-1,
     )
 
-pub returns-else-n-y-2 : goal.returns-else-n-y-2
-returns-else-n-y-2 c =
+pub returns-in-false-false : goal.returns-in-false-false
+returns-in-false-false c =
     rw (
       (stripped c.args.x.now c.args.y.now c.shared-n.ensures).compares,
-      drop_of_length-le c.args.x.now c.if-n-x.false,
-      drop_of_length-le c.args.y.now c.if-n-y-2.false,
+      drop_of_length-le c.args.x.now c.in-false-false.is-0,
+      drop_of_length-le c.args.y.now c.in-false-false.is-1,
     )

@@ -1,40 +1,35 @@
-use Prim.Native.Nat.{ℕ, suc, ◌<◌}
-use mathlib.Core.Bool.{cond}
-use mathlib.Core.List.{List}
-use mathlib.Core.Path.{◌≡◌}
-use native.Mathlib.Numerals.{add-one}
+-- `shared` meets its contract: the pairs of codes that are the same, up to the first that is not. Assumes nothing.
+use Prim.Native.Nat.{ℕ}
+use mathlib.Core.Bool.{Bool, cond}
+use mathlib.Core.List.{List, [], ◌∷◌}
+use mathlib.Core.Path.{◌≡◌, refl, ap, ◌∙◌}
 use native.Mathlib.Omega.{arith}
-use borrow.Author.Tests.{eq-eqb, ne_eqb}
+use borrow.Author.Tests.{tests}
 use lib.Dec.{eqb}
-use lib.ListN.{length, get_or, drop, drop_of_length-le}
-use lib.Seq.{drop-cons}
+use Rattle.std.proofs.Common.{rules}
+use Rattle.std.specs.List.{zip, prefix_len}
+use Rattle.std.proofs.lemmas.List.Folds.{length-prefix_len}
+use Rattle.std.proofs.lemmas.Iterator.{YieldsList-from_slice, YieldsList-from_zip}
+use Rattle.std.proofs.lemmas.Iterator.Consumers.{YieldsList-at, count_from_yields_List}
+use Rattle.std.proofs.lemmas.Iterator.Search.{YieldsList-from_take_while}
 use Rattle.words.specs.Difference.{shared_of}
 use Rattle.words.proofs.shared.Goals as goal
 
--- at a place that both words have, their codes decide
-at_place : (x y : List ℕ) (i : ℕ) → i < length x → i < length y
-    → shared_of (drop i x) (drop i y) ≡ cond (eqb (get_or x i 0) (get_or y i 0)) (suc (shared_of (drop (suc i) x) (drop (suc i) y))) 0
+-- the two codes of a pair are the same
+abbrev same : ℕ × ℕ → Bool
+same p = eqb p.0 p.1
+
+in-pairs : (x y : List ℕ) → prefix_len same (zip x y) ≡ shared_of x y
 unfolding shared_of
-at_place x y i in_x in_y = rw (drop-cons x i 0, drop-cons y i 0)
+in-pairs [] y = refl
+in-pairs (a ∷ x) [] = refl
+in-pairs (a ∷ x) (b ∷ y) = ap (λ (n : ℕ). cond (eqb a b) n 0) (let e = in-pairs x y in omega (arith, e))
 
-pub loop-i-preserved : goal.loop-i-preserved
-loop-i-preserved c =
-    let one_more = rw (at_place _ _ _ c.loop-i-test.true c.if-i-y.true, eq-eqb _ _ c.if-x-i.true) at c.loop-i.invariant in
-    rw add-one (omega arith)
-
-pub returns-else-x-i : goal.returns-else-x-i
-returns-else-x-i c =
-    let no_more = rw (at_place _ _ _ c.loop-i-test.true c.if-i-y.true, ne_eqb _ _ c.if-x-i.false) at c.loop-i.invariant in
-    omega arith
-
-pub returns-else-i-y : goal.returns-else-i-y
-unfolding shared_of
-returns-else-i-y c =
-    let y_ends = rw (drop_of_length-le c.args.y.now c.if-i-y.false, drop-cons {A = ℕ} _ _ 0 c.loop-i-test.true) at c.loop-i.invariant in
-    omega arith
-
-pub returns-after-loop-i : goal.returns-after-loop-i
-unfolding shared_of
-returns-after-loop-i c =
-    let x_ends = rw (drop_of_length-le c.args.x.now c.loop-i-test.false) at c.loop-i.invariant in
-    omega arith
+pub returns : goal.returns
+returns c =
+    let x = c.args.x.now in
+    let y = c.args.y.now in
+    let pairs = YieldsList-from_zip (YieldsList-at c.zip.ensures.first (YieldsList-from_slice x c.iter.ensures.rest)) (YieldsList-at c.zip.ensures.second (YieldsList-from_slice y c.iter-2.ensures.rest)) in
+    count_from_yields_List c.take_while.result _ c.count.ensures.ran
+    (YieldsList-from_take_while _ same (YieldsList-at c.take_while.ensures.source pairs) c.take_while.ensures.closure c.take_while.ensures.done (λ x b q k. search (rules, tests)))
+    ∙ (length-prefix_len same (zip x y) ∙ in-pairs x y)

@@ -3,4 +3,4 @@ use Rattle.wordsearch.proofs.AnswerLaws.{answered}
 use Rattle.wordsearch.proofs.find.Goals as goal
 
 pub returns : goal.returns
-returns c = answered c.requires.valid c.by_input.ensures c.requires.room.most c.search.ensures
+returns g c = answered c.requires.valid c.by_input-m.ensures _ _ _ c.requires.room.most c.search.ensures

@@ -6,25 +6,18 @@ use Rattle.wordsearch.proofs.roots.Goals as goal
 use Rattle.wordsearch.proofs.roots.Goals.{then-contains, else-contains}
 
 pub loop-q-init : goal.loop-q-init
-loop-q-init c = record { rooted = rooted_none c.requires.blank; within = omega arith }
+loop-q-init g c = rooted_none c.requires.blank
 
 pub loop-q-preserved : goal.loop-q-preserved
-loop-q-preserved c =
-    let r = c.loop-q.invariant.rooted in
-    record {
-      rooted =
-          elim c.if-contains.branch [
-            | then-contains w ↦
-                rooted_visit 0 r (omega arith) (sym c.contains.ensures ∙ w.if-contains.true)
-                (rw (w.order-is, w.rank-is, w.parent-is, w.via-is, w.n-is) w.visit-n.ensures)
-            | else-contains w ↦
-                rw (w.order-is, w.rank-is, w.parent-is, w.via-is, w.n-is)
-                (rooted_skip r (λ z. true≢false (sym z ∙ sym c.contains.ensures ∙ w.if-contains.false)))
-          ];
-      within = omega arith;
-    }
+loop-q-preserved g c =
+    let r = c.loop-q.invariant in
+    elim c.if-contains.branch [
+      | then-contains w ↦
+          rooted_visit 0 r (omega arith) (sym c.contains.ensures ∙ w.if-contains.true) (rw w.found-is w.visit.ensures)
+      | else-contains w ↦ rw w.found-is (rooted_skip r (λ z. true≢false (sym z ∙ sym c.contains.ensures ∙ w.if-contains.false)))
+    ]
 
 pub returns : goal.returns
-returns c =
-    let r = c.loop-q.invariant.rooted in
+returns g c =
+    let r = c.loop-q.invariant in
     record { grown = r.grown; done = λ v _ z. r.done v (omega (arith, in_below _ v z)) z }

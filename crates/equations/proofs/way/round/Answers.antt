@@ -3,4 +3,4 @@ use Rattle.equations.proofs.PlaceLaws.{round_at}
 use Rattle.equations.proofs.way.round.Goals as goal
 
 pub returns : goal.returns
-returns c = round_at c.requires.steps_len c.enter-start.ensures c.requires.ways_of.leaves c.leave-end.ensures
+returns c = round_at c.requires.steps_len c.enter-start.ensures c.requires.leaves c.leave-end.ensures

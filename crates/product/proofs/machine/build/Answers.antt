@@ -9,7 +9,7 @@ use Rattle.product.proofs.machine.build.Goals as goal
 pub loop-l-init : goal.loop-l-init
 loop-l-init c =
     let a = c.args in
-    let v = c.requires.valid in
+    let v = c.requires in
     record {
       valid = view_valid a.back a.t v;
       built = view_none a.back a.t c.clear.ensures v.few_transitions;

@@ -8,9 +8,6 @@ use Rattle.product.proofs.machine.build.Given as goal
 abbrev pub invariant-loop-l : goal.invariant-loop-l
 invariant-loop-l l = record {
   valid : Valid (view_of l.back l.t);
-  built : Built (view_of l.back l.t) l.written l.out l.l;
+  built : Built (view_of l.back l.t) l.written l.places l.l;
   within : l.l ≤ (view_of l.back l.t).count;
 }
-
-abbrev pub decreases-loop-l : goal.decreases-loop-l
-decreases-loop-l l = l.l

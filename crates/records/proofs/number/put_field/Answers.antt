@@ -34,18 +34,11 @@ module _ (out : List ℕ) (at : ℕ) where
   stored zero v h = put_none out at
   stored (suc n) v h = absurd (not-suc-le-zero h)
 
-pub overflow_add-out-2 : goal.overflow_add-out-2
-overflow_add-out-2 c = omega (arith, length_columns c.args.width c.args.v)
-
-pub bounds-out-at : goal.bounds-out-at
-bounds-out-at c = omega (arith, length_columns c.args.width c.args.v)
-
 pub loop-left-init : goal.loop-left-init
 loop-left-init c =
     record {
       puts = refl;
       same_length = refl;
-      within = omega arith;
       room = simp length-set (omega (arith, length_columns c.args.width c.args.v));
     }
 
@@ -55,7 +48,6 @@ loop-left-preserved c =
     record {
       puts = store_leading _ _ _ _ _ c.loop-left-test.true (omega arith) c.leading.ensures ∙ i.puts;
       same_length = omega (arith, length-set {A = ℕ});
-      within = omega arith;
       room = omega (arith, length-set {A = ℕ});
     }
 

@@ -3,13 +3,13 @@ use Rattle.records.proofs.RecordPuts.{record_letter_room, record_fields_room, re
 use Rattle.records.proofs.writer.put_record.Goals as goal
 
 pub put_byte-fields-requires : goal.put_byte-fields-requires
-put_byte-fields-requires c = record_letter_room _ _ _ c.requires.room
+put_byte-fields-requires g c = record_letter_room _ _ _ c.requires.room
 
 pub put_fields-end-requires-clause-room : goal.put_fields-end-requires-clause-room
-put_fields-end-requires-clause-room c = record_fields_room _ _ _ c.requires.room c.put_byte-fields.ensures
+put_fields-end-requires-clause-room g c = record_fields_room _ _ _ c.requires.room c.put_byte-fields.ensures
 
 pub put_byte-requires : goal.put_byte-requires
-put_byte-requires c = record_end_room _ _ _ c.requires.room c.put_byte-fields.ensures c.put_fields-end.ensures
+put_byte-requires g c = record_end_room _ _ _ c.requires.room c.put_byte-fields.ensures c.put_fields-end.ensures
 
 pub returns : goal.returns
-returns c = record_put _ _ _ c.requires.room c.put_byte-fields.ensures c.put_fields-end.ensures c.put_byte.ensures
+returns g c = record_put _ _ _ c.requires.room c.put_byte-fields.ensures c.put_fields-end.ensures c.put_byte.ensures

@@ -8,6 +8,6 @@ use Rattle.series.proofs.table.both_in.Given as goal
 
 abbrev pub invariant-loop-v : goal.invariant-loop-v
 invariant-loop-v l = record {
-  next : l.n ≡ state_of (among l.joined) l.v;
-  built : Built (flag (among l.joined) l.s l.s2) l.set l.n;
+  next : l.n ≡ state_of (among l.flags) l.v;
+  built : Built (flag (among l.flags) l.s l.s2) l.set l.n;
 }

@@ -7,8 +7,8 @@ use Rattle.series.proofs.table.number.Given as goal
 
 abbrev pub invariant-loop-v : goal.invariant-loop-v
 invariant-loop-v l = record {
-  long : length l.states ≡ most_pairs;
-  next : l.n ≡ state_of (among l.joined) l.v;
-  low : l.n ≤ l.v;
-  state : (u : ℕ) → u < l.v → get_or l.states u 0 ≡ state_of (among l.joined) u;
+  long : length l.numbering.states ≡ most_pairs;
+  next : l.numbering.count ≡ state_of (among l.pairs) l.v;
+  low : l.numbering.count ≤ l.v;
+  state : (u : ℕ) → u < l.v → get_or l.numbering.states u 0 ≡ state_of (among l.pairs) u;
 }

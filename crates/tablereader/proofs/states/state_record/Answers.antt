@@ -7,5 +7,4 @@ pub returns : goal.returns
 unfolding state_record_of
 returns c =
     let a = c.args in
-    simp (c.first_fault.ensures, c.first_fault-front.ensures, c.in_range-state.ensures)
-    (one_range a.text.now a.at a.letter _ _ c.read_one_field-read.ensures)
+    simp (c.or-2.ensures, c.or.ensures, c.in_range-state.ensures) (one_range a.text.now a.at a.letter _ _ c.read_one_field-read.ensures)

@@ -12,23 +12,19 @@ use Rattle.tablereader.proofs.transitions.transition_of.Goals as goal
 
 pub loop-j-init : goal.loop-j-init
 unfolding firsts
-loop-j-init c = record { stored = refl; long = refl; within = omega arith }
+loop-j-init c = record { stored = refl; long = refl }
 
 pub loop-j-preserved : goal.loop-j-preserved
 loop-j-preserved c =
     let l = c.loop-j in
-    record {
-      stored = output_turn c.args.values l.output l.j (omega arith) l.invariant.stored;
-      long = simp length-set l.invariant.long;
-      within = omega arith;
-    }
+    record { stored = output_turn c.args.values l.code-items l.j (omega arith) l.invariant.stored; long = simp length-set l.invariant.long }
 
 pub returns : goal.returns
 unfolding transition_with
 returns c =
     let l = c.loop-j in
     let all : l.j ≡ most_outputs = omega arith in
-    let output : l.output ≡ firsts most_outputs (code_of c.args.values) =
-    sym (take_all l.j l.output (omega arith)) ∙ l.invariant.stored ∙ ap (λ (k : ℕ). firsts k (code_of c.args.values)) all
+    let output : l.code-items ≡ firsts most_outputs (code_of c.args.values) =
+    sym (take_all l.j l.code-items (omega arith)) ∙ l.invariant.stored ∙ ap (λ (k : ℕ). firsts k (code_of c.args.values)) all
     in
     cc

@@ -1,13 +1,13 @@
--- `put_transition` meets its contract: the numbers that are put are those of the transition's record. Assumes nothing.
-use native.Mathlib.Nat.{sub-zero}
+-- `put_transition` meets its contract: the codes that are put are those that the transition writes. Assumes nothing.
+use Rattle.std.proofs.Common.{arith}
 use Rattle.tablewriter.specs.File.{transition_bytes}
-use Rattle.tablewriter.proofs.FileLaws.{transition_numbers}
+use Rattle.tablewriter.proofs.FileLaws.{codes_taken}
 use Rattle.tablewriter.proofs.file.put_transition.Goals as goal
 
-pub put_byte_record-requires-clause-room : goal.put_byte_record-requires-clause-room
+pub put_joined-requires-clause-room : goal.put_joined-requires-clause-room
 unfolding transition_bytes
-put_byte_record-requires-clause-room c = rw (sub-zero, transition_numbers c.args.v c.requires.count_le_most_outputs) c.requires.room
+put_joined-requires-clause-room c = rw (codes_taken c.args.v (omega arith)) c.requires.room
 
 pub returns : goal.returns
 unfolding transition_bytes
-returns c = rw (sub-zero, transition_numbers c.args.v c.requires.count_le_most_outputs) at c.put_byte_record.ensures
+returns c = rw (codes_taken c.args.v (omega arith)) at c.put_joined.ensures

@@ -1,15 +1,25 @@
--- `count_outputs` meets its contract: each turn adds the count of the next transition. Assumes nothing.
-use Rattle.std.proofs.Common.{refl, arith}
-use Rattle.tablewriter.specs.File.{outputs_below}
-use Rattle.tablewriter.proofs.LengthLaws.{outputs_more, few_outputs}
+-- `count_outputs` meets its contract: the counts of the transitions are summed. Assumes nothing.
+use mathlib.Core.Path.{◌∙◌}
+use Rattle.std.proofs.Common.{rules, ◌<◌, ◌^◌, take, arith}
+use Rattle.std.specs.List.{sum_by}
+use Rattle.std.proofs.lemmas.Iterator.{YieldsList-from_slice, YieldsList-from_map}
+use Rattle.std.proofs.lemmas.Iterator.Consumers.{fits_by_from_yields_list, sum_by_from_yields_List}
+use Rattle.transducer.specs.declared.Transition.{Transition}
+use Rattle.tablewriter.proofs.LengthLaws.{outputs_summed, few_outputs}
 use Rattle.tablewriter.proofs.size.count_outputs.Goals as goal
 
-pub loop-l-init : goal.loop-l-init
-unfolding outputs_below
-loop-l-init c = refl
+pub sum-requires-clause-fits : goal.sum-requires-clause-fits
+sum-requires-clause-fits c =
+    let t = c.args.t in
+    let lines = take t.count t.transitions in
+    let few : sum_by (λ (v : Transition). v.count) lines < 2 ^ 64 = omega (arith, outputs_summed t t.count (omega arith), few_outputs t c.requires t.count (omega arith), c.requires.few_transitions) in
+    fits_by_from_yields_list (λ (v : Transition). v.count) lines c.map.result _
+    (YieldsList-from_map _ (λ (v : Transition). v.count) (YieldsList-from_slice lines (cc)) c.map.ensures.closure (λ x r q k. search rules)) few
 
-pub overflow_add-n : goal.overflow_add-n
-overflow_add-n c = omega (arith, few_outputs c.args.t c.requires c.loop-l.l (omega arith), c.requires.few_transitions)
-
-pub loop-l-preserved : goal.loop-l-preserved
-loop-l-preserved c = omega (arith, outputs_more c.args.t c.loop-l.l)
+pub returns : goal.returns
+returns c =
+    let t = c.args.t in
+    let lines = take t.count t.transitions in
+    sum_by_from_yields_List (λ (v : Transition). v.count) lines c.map.result _ c.sum.ensures.ran
+    (YieldsList-from_map _ (λ (v : Transition). v.count) (YieldsList-from_slice lines (cc)) c.map.ensures.closure (λ x r q k. search rules))
+    ∙ outputs_summed t t.count (omega arith)

@@ -1,28 +1,16 @@
--- `count_states` meets its contract: each turn counts the next state where it is in the set. Assumes nothing.
-use Rattle.std.proofs.Common.{ℕ, ◌≡◌, refl, sym, ap, ◌∙◌, length, arith}
-use Rattle.transducer.specs.Limits.{most_states}
-use Rattle.tablewriter.specs.File.{states_below, size_of}
-use Rattle.tablewriter.proofs.LengthLaws.{size_in, size_out, few_states}
+-- `count_states` meets its contract: the places that hold true are the states of the set. Assumes nothing.
+use mathlib.Core.Path.{◌∙◌}
+use borrow.Author.Tests.{tests}
+use Rattle.std.proofs.Common.{rules, arith}
+use Rattle.std.proofs.lemmas.Iterator.{YieldsList-from_slice}
+use Rattle.std.proofs.lemmas.Iterator.Consumers.{YieldsList-from_filter, count_from_yields_List}
+use Rattle.std.proofs.lemmas.List.Sums.{length-filter}
+use Rattle.tablewriter.proofs.LengthLaws.{size_counted}
 use Rattle.tablewriter.proofs.size.count_states.Goals as goal
-use Rattle.tablewriter.proofs.size.count_states.Goals.{then-contains, else-contains}
-
-pub loop-q-init : goal.loop-q-init
-unfolding states_below
-loop-q-init c = refl
-
-pub overflow_add-n : goal.overflow_add-n
-overflow_add-n c = omega (arith, few_states c.args.s c.loop-q.q)
-
-pub loop-q-preserved : goal.loop-q-preserved
-loop-q-preserved c =
-    let has_q = c.contains.ensures in
-    elim c.if-contains.branch [
-      | then-contains w ↦ omega (arith, size_in c.args.s c.loop-q.q (sym has_q ∙ w.if-contains.true))
-      | else-contains w ↦ omega (arith, size_out c.args.s c.loop-q.q (sym has_q ∙ w.if-contains.false))
-    ]
 
 pub returns : goal.returns
-unfolding size_of
 returns c =
-    let e : c.loop-q.q ≡ most_states = omega arith in
-    c.loop-q.invariant ∙ ap (λ (q : ℕ). length (states_below q c.args.s)) e
+    let member = c.args.s.member in
+    count_from_yields_List c.filter.result _ c.count.ensures.ran
+    (YieldsList-from_filter _ (λ x. x) (YieldsList-from_slice member (cc)) c.filter.ensures.closure (λ x r q k. search (rules, tests)))
+    ∙ length-filter (λ x. x) member ∙ size_counted c.args.s (omega arith)

@@ -9,11 +9,12 @@ use Rattle.std.specs.Int.Bits.{bit_or}
 use Rattle.transducer.specs.StateSet.{has, In}
 use Rattle.transducer.specs.declared.StateSet.{StateSet}
 use Rattle.transducer.proofs.Facts.{in_below}
+use Rattle.transducer.proofs.StateSetLaws.{has_below}
 use Rattle.useful.specs.Sets.{Has}
 use Rattle.useful.proofs.SetLaws.{has_one, has_or}
 use Rattle.useful.proofs.sets.number.Invariants.{Below}
 use Rattle.useful.proofs.sets.number.Goals as goal
-use Rattle.useful.proofs.sets.number.Goals.{then-contains, else-contains}
+use Rattle.useful.proofs.sets.number.Goals.{then-inside, else-inside}
 
 module _ {s : StateSet} where
   below_with : {n set : ℕ} → Below s n set → In s n → Below s (n + 1) (bit_or set (2 ^ n))
@@ -40,10 +41,9 @@ module _ {s : StateSet} where
 
 pub loop-q-preserved : goal.loop-q-preserved
 loop-q-preserved c =
-    let test = sym c.contains.ensures in
-    elim c.if-contains.branch [
-      | then-contains w ↦ rw (w.set-is, w.one-set.ensures) (below_with c.loop-q.invariant (test ∙ w.if-contains.true))
-      | else-contains w ↦ rw w.set-is (below_skip c.loop-q.invariant (test ∙ w.if-contains.false))
+    elim c.if-inside.branch [
+      | then-inside w ↦ rw (w.set-is, w.one-set.ensures) (below_with c.loop-q.invariant (has_below c.args.s c.loop-q.q c.loop-q-test.true ∙ w.if-inside.true))
+      | else-inside w ↦ rw w.set-is (below_skip c.loop-q.invariant (has_below c.args.s c.loop-q.q c.loop-q-test.true ∙ w.if-inside.false))
     ]
 
 pub returns : goal.returns

@@ -10,4 +10,4 @@ pub record Below (s : StateSet) (n set : ℕ) : Type 0 where
   pub members : (q : ℕ) → Has set q ↔ ((q < n) × In s q)
 
 abbrev pub invariant-loop-q : goal.invariant-loop-q
-invariant-loop-q l = Below l.s l.q l.set
+invariant-loop-q l = Below l.fn.s l.q l.set

@@ -2,8 +2,9 @@
 use mathlib.Core.Path.{◌≡◌, refl}
 use Prim.Native.Nat.{ℕ, ◌<◌}
 use Rattle.std.proofs.Common.{arith}
+use Rattle.std.proofs.lemmas.List.{length-take, get_or-take}
 use Rattle.transducer.specs.Limits.{most_states}
-use Rattle.transducer.specs.Transition.{at}
+use Rattle.transducer.specs.Transition.{at, outside}
 use Rattle.transducer.specs.Valid.{Valid}
 use Rattle.transducer.specs.Walks.{Edge}
 use Rattle.transducer.specs.declared.Transducer.{Transducer}
@@ -26,20 +27,26 @@ line {l = l} valid used =
       to_below = omega (arith, u.to_state, valid.few_states);
     }
 
-pub loop-l-init : goal.loop-l-init
-loop-l-init c = record { there = led_none c.requires.ahead_value; back = led_none c.requires.back_value; within = omega arith }
+pub loop-v-init : goal.loop-v-init
+loop-v-init c = record { there = led_none refl; back = led_none refl }
 
-pub loop-l-preserved : goal.loop-l-preserved
-loop-l-preserved c =
-    let k = c.loop-l.invariant in
-    let e = line c.requires.valid c.loop-l-test.true in
+pub loop-v-preserved : goal.loop-v-preserved
+loop-v-preserved c =
+    let k = c.loop-v.invariant in
+    let used : c.loop-v.v-index < c.args.t.count = omega (arith, length-take c.args.t.count c.args.t.transitions, c.loop-v-test.true) in
+    let e = line c.requires used in
+    let same = get_or-take c.args.t.count c.args.t.transitions c.loop-v.v-index outside used in
     record {
-      there = led_more k.there e.edge e.from_below e.to_below c.add.ensures;
-      back = led_more k.back ((reversed_edge _).1 e.edge) e.to_below e.from_below c.add-in-loop-l.ensures;
-      within = omega arith;
+      there = led_more k.there e.edge e.from_below e.to_below (rw same at c.add.ensures);
+      back = led_more k.back ((reversed_edge _).1 e.edge) e.to_below e.from_below (rw same at c.add-in-loop-v.ensures);
     }
 
-pub returns-clause-steps_of_2 : goal.returns-clause-steps_of_2
-returns-clause-steps_of_2 c =
-    let e : c.loop-l.l ≡ c.args.t.count = omega arith in
-    led_all (λ l p q x. ((reversed_edge _).0 x).used) (rw e at c.loop-l.invariant.back)
+pub returns-clause-ahead : goal.returns-clause-ahead
+returns-clause-ahead c =
+    let e : c.loop-v.v-index ≡ c.args.t.count = omega (arith, length-take c.args.t.count c.args.t.transitions) in
+    led_all (λ l p q x. x.used) (rw e at c.loop-v.invariant.there)
+
+pub returns-clause-back : goal.returns-clause-back
+returns-clause-back c =
+    let e : c.loop-v.v-index ≡ c.args.t.count = omega (arith, length-take c.args.t.count c.args.t.transitions) in
+    led_all (λ l p q x. ((reversed_edge _).0 x).used) (rw e at c.loop-v.invariant.back)

@@ -1,7 +1,0 @@
--- `target` meets its contract. Assumes nothing.
-use Rattle.std.proofs.Common.{sym}
-use Rattle.product.proofs.TargetLaws.{target_sides}
-use Rattle.product.proofs.steps.target.Goals as goal
-
-pub returns : goal.returns
-returns c = rw (c.side-p.ensures, c.side-q.ensures) (sym (target_sides _ _ _ _ _ c.requires.step_le_no_transition))

@@ -1,2 +1,0 @@
--- The law of the streams that programs cite.
-pub mod ToldLaws
