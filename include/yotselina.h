@@ -361,7 +361,7 @@ YOTSELINA_CALL yotselina_look(const uint8_t *table, size_t table_length, uint8_t
  * Order counts: (p, q) and (q, p) are two pairs. p may equal q.
  *
  * Refusals: 100; 8; 7 if flags has fewer than YOTSELINA_PAIRS places.
- * Stack: 90,112 bytes.
+ * Stack: 57,344 bytes.
  */
 YOTSELINA_CALL yotselina_useful_pairs(const uint8_t *table, size_t table_length,
                                       uint8_t *flags, size_t flags_length,
@@ -417,7 +417,7 @@ YOTSELINA_CALL yotselina_remove(uint8_t *table, size_t table_length, size_t numb
  * nothing else.
  *
  * Refusals: 100; 8 for either table; 15, 16, 17.
- * Stack: 90,112 bytes.
+ * Stack: 69,632 bytes.
  */
 YOTSELINA_CALL yotselina_join(const uint8_t *first, size_t first_length,
                               const uint8_t *second, size_t second_length,

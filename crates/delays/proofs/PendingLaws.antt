@@ -1,5 +1,5 @@
 -- The loops of `needs` and `whole`: a way out that is being written, one law for each event. Assumes nothing.
-use mathlib.Core.Path.{◌≡◌, sym, ap, ◌∙◌}
+use mathlib.Core.Path.{◌≡◌, refl, sym, ap, ◌∙◌}
 use mathlib.Core.Bool.{Bool}
 use mathlib.Core.List.{List, ◌++◌, append_assoc, append-nil}
 use Prim.Native.Nat.{ℕ, ◌+◌, ◌-◌, ◌≤◌, ◌<◌}
@@ -26,6 +26,9 @@ pub record Pending (written link label : List ℕ) (right : Bool) (v : ℕ) (bef
   pub front : take to word ++ word_out written link label right node ≡ take p before ++ word_out written link label right v
 
 module _ {written link label : List ℕ} {right : Bool} {v : ℕ} {before : List ℕ} {p : ℕ} where
+  pub pending_none : Led link label v → p ≤ length before → Pending written link label right v before p before p v
+  pending_none l h = record { here = l; long = refl; within = h; front = refl }
+
   module _ {word : List ℕ} {to node : ℕ} (s : Pending written link label right v before p word to node) (room : p ≤ length before) where
     -- how much is still to come
     pending_count : to + length (word_out written link label right node) ≡ p + length (word_out written link label right v)

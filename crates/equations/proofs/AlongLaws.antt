@@ -19,11 +19,11 @@ use Rattle.equations.proofs.PairLaws.{flagged_one}
 -- ---- the loop
 
 module _ (x : TestLists) (v : ℕ) where
-  -- at the pair i of the way out of v; the two words are what the sides of the way out of i write
+  -- at the pair i of the way out of v; the two lists begin with what the sides of the way out of i write
   pub record Along (left right : List ℕ) (tested : List Bool) (i : ℕ) : Type 0 where
     pub led : Led x.ways.link x.ways.label i
     pub counts : gap_at x i ≢ 0
-    pub held : WayHeld x.ways.written x.ways.link x.ways.label i left right
+    pub held : WayHeld x.ways.written x.ways.link x.ways.label i left 0 right 0
     pub flags : Flagged x tested
     -- v is still to be tested, or has its flag
     pub first : (i ≡ v) ⊎ (get_or tested v false ≡ true)
@@ -31,18 +31,19 @@ module _ (x : TestLists) (v : ℕ) where
 module _ {x : TestLists} {v : ℕ} (s : Measured x) where
   module _ {left right : List ℕ} {tested : List Bool} {i : ℕ} (z : Along x v left right tested i) where
     -- the way goes on from a pair that is not level
-    pub along_ahead : {b : Bool} → (b ≡ true) ↔ (gap_at x i ≡ level) → (d : Bool) → (not b && not d) ≡ true
-        → Onward x.ways.link x.ways.label x.ways.written i (get_or x.ways.link i 0 - 1)
-    along_ahead {b} tells d e =
+    pub along_ahead : gap_at x i ≢ level → Onward x.ways.link x.ways.label x.ways.written i (get_or x.ways.link i 0 - 1)
+    along_ahead n =
         onward s.grounds.lists.links x.ways.written z.led
-        (λ q.
-        let g = (s.grounds.gaps i z.led.inside z.counts).balance in
-        let even : gap_at x i ≡ level = omega (arith, g, (gap_ends {written = x.ways.written} z.led q).balance) in
-        false≢true (sym (not-true b (and_left (not b) (not d) e)) ∙ tells.1 even))
+        (λ e. n (omega (arith, (s.grounds.gaps i z.led.inside z.counts).balance, (gap_ends {written = x.ways.written} z.led e).balance)))
+
+    -- the test of the loop tells that it goes on
+    pub along_on : {b : Bool} → (b ≡ true) ↔ (gap_at x i ≡ level) → (d : Bool) → (not b && not d) ≡ true
+        → Onward x.ways.link x.ways.label x.ways.written i (get_or x.ways.link i 0 - 1)
+    along_on {b} tells d e = along_ahead (λ q. false≢true (sym (not-true b (and_left (not b) (not d) e)) ∙ tells.1 q))
 
     -- the pair passes
     pub along_more : {next : ℕ} {left' right' : List ℕ} → Onward x.ways.link x.ways.label x.ways.written i next
-        → WayHeld x.ways.written x.ways.link x.ways.label next left' right' → PairPasses x i → Along x v left' right' (set tested i true) next
+        → WayHeld x.ways.written x.ways.link x.ways.label next left' 0 right' 0 → PairPasses x i → Along x v left' right' (set tested i true) next
     along_more {next} o held p =
         let to : get_or x.ways.link i 0 - 1 ≡ next = omega (arith, o.next_is) in
         record {
@@ -59,3 +60,11 @@ module _ {x : TestLists} {v : ℕ} (s : Measured x) where
             rw same (get_or-set_same tested i true false (omega (arith, z.flags.long, z.led.inside)))
         first (inl w) false q = absurd (eqb-false v i q (sym w))
         first (inr w) false q = get_or-set_other tested i v true false (eqb-false v i q) ∙ w
+
+    -- the end: v has its flag
+    pub along_done : (gap_at x i ≢ level → get_or tested i false ≡ true) → gap_at x v ≢ level → PairPasses x v × Flagged x tested
+    along_done e n = (z.flags.pass v (go z.first), z.flags)
+      where
+        go : (i ≡ v) ⊎ (get_or tested v false ≡ true) → get_or tested v false ≡ true
+        go (inl w) = rw w at (e (rw w n))
+        go (inr w) = w

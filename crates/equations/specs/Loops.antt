@@ -79,9 +79,9 @@ module _ (x : TestLists) where
     pub lefts : needs.left ≡ needs_at false i
     pub rights : needs.right ≡ needs_at true i
 
-  -- the next pair on a way, with what the two sides of the way out of it write, if it is at hand
+  -- the next pair on a way, with two lists that begin with what the two sides of the way out of it write, if it is at hand
   abbrev pub NextHeld : Option OnWay → Type 0
-  NextHeld next = IfSome next (λ p. WayHeld x.ways.written x.ways.link x.ways.label p.pair p.sides.left.now p.sides.right.now)
+  NextHeld next = IfSome next (λ p. WayHeld x.ways.written x.ways.link x.ways.label p.pair p.sides.left.now 0 p.sides.right.now 0)
 
   -- the tests at the pair i: if it is a pair of start states nothing is needed there, and the equation holds at the steps to pairs that count
   pub record PairPasses (i : ℕ) : Type 0 where

@@ -98,7 +98,8 @@ pub fn walk(
         }
         At::Step(step) => step,
     };
-    let ways_in = pairs::ways_in(t, m, found);
+    let mut ways_in = pairs::Links::new();
+    pairs::ways_in(t, m, found, &mut ways_in);
     let into = PairLinks {
         link: &ways_in.link,
         label: &ways_in.label,

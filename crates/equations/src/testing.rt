@@ -34,7 +34,7 @@ impl<'a> Model for Tests<'a> {
     ghost invariant = { λ x. Measured (record { starts = x.starts; machine = x.machine.now; ways = x.ways }) };
 }
 
-// A pair on a way out, and what the two sides of the way out of it write.
+// A pair on a way out, and two lists that begin with what the two sides of the way out of it write.
 // What these words and flags are stays a clause (`NextHeld`, `NeedsAt`, `Flagged`): it is said by the lists of the tests, which they do not have.
 #[derive(Clone, Copy)]
 pub struct OnWay<'a> {

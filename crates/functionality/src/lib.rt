@@ -2,11 +2,15 @@
 // `Decided` of specs/Decided.antt. What is tested, and why it is enough, is in the crate `equations`.
 #![tactic(auto)]
 
-ghost use Rattle.std.specs.Prelude.{◌≡◌, true, Ok};
+ghost use Rattle.std.specs.Prelude.{◌≡◌, true, false, Ok};
 ghost use Rattle.transducer.specs.Accepted.{accepted_of};
+ghost use Rattle.product.specs.Machine.{ImageOf};
 ghost use Rattle.witness.specs.Showing.{contents_of, SameMemory};
+ghost use Rattle.equations.specs.Tests.{Standing, Differing, Tested};
 ghost use Rattle.functionality.specs.Decided.{full_of, Decided};
 
+use equations::Failure;
+use pairs::{Links, UsefulPairs};
 use product::machine::Machine;
 use product::steps::PAIRS;
 use transducer::Transducer;
@@ -49,7 +53,7 @@ fn full(lent: &Lent) -> bool
         & (CODES <= lent.output_y.len())
 }
 
-// The verdict on a transducer that is accepted, with buffers in full: where a test fails, the walk that shows it is put into them, as a witness.
+// The verdict on a transducer that is accepted, with buffers in full.
 #[inline(never)]
 fn examine(t: Transducer, lent: &mut Lent) -> Verdict
     requires t_value { accepted_of t ≡ true }
@@ -58,22 +62,55 @@ fn examine(t: Transducer, lent: &mut Lent) -> Verdict
     ensures decided { Decided t (contents_of lent.old) (contents_of lent.new) (Ok result) }
 {
     let m = Machine::by_input(t);
-    let mut search = Search::<PAIRS>::new();
-    let (found, out) = pairs::ways_out(t, &m, &mut search);
-    let useful = found.count;
-    match equations::search(t, &m, &out, &search) {
+    let mut out = Links::new();
+    let (found, failure) = test(t, &m, &mut out);
+    match failure {
         None => Verdict {
-            useful,
+            useful: found.count,
             witness: None,
         },
-        Some(failure) => {
-            let mut steps = [0u32; STEPS];
-            let place = equations::walk(t, &m, found, &out, failure, &mut steps);
-            let counts = witness::show(t, &steps[place.start..place.end], lent);
-            Verdict {
-                useful,
-                witness: Some(counts),
-            }
-        }
+        Some(failure) => split(t, &m, found, &out, failure, lent),
+    }
+}
+
+// The useful pairs, whose ways out are written into `out`, and where a test fails, if one does. A function of its own: its search is no longer in memory where a
+// witness is made.
+#[inline(never)]
+fn test(t: Transducer, m: &Machine, out: &mut Links) -> (UsefulPairs, Option<Failure>)
+    requires t_value { accepted_of t ≡ true }
+    requires image_of { ImageOf t false m.now }
+    ensures standing { Standing t result.0 out.new.link out.new.label }
+    ensures tested { Tested t out.new.link out.new.label result.1 }
+{
+    let mut search = Search::<PAIRS>::new();
+    let found = pairs::ways_out(t, m, &mut search, out);
+    let failure = equations::search(t, m, out, &search);
+    (found, failure)
+}
+
+// The verdict on a transducer at which a test fails: the walk that shows it is put into the buffers. A function of its own: where nothing fails its list of
+// steps is not made.
+#[inline(never)]
+fn split(
+    t: Transducer,
+    m: &Machine,
+    found: UsefulPairs,
+    out: &Links,
+    failure: Failure,
+    lent: &mut Lent,
+) -> Verdict
+    requires standing { Standing t found out.now.link out.now.label }
+    requires image_of { ImageOf t false m.now }
+    requires differing { Differing t out.now.link out.now.label failure }
+    requires full { full_of (contents_of lent.old) ≡ true }
+    ensures same_memory { SameMemory lent.old lent.new }
+    ensures decided { Decided t (contents_of lent.old) (contents_of lent.new) (Ok result) }
+{
+    let mut steps = [0u32; STEPS];
+    let place = equations::walk(t, m, found, out, failure, &mut steps);
+    let counts = witness::show(t, &steps[place.start..place.end], lent);
+    Verdict {
+        useful: found.count,
+        witness: Some(counts),
     }
 }

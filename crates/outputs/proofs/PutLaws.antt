@@ -7,9 +7,11 @@ use Prim.Native.Nat.{ℕ, zero, suc, ◌+◌, ◌*◌, ◌-◌, ◌≤◌, ◌<�
 use native.Mathlib.Omega.{arith}
 use borrow.Rule.Slice.PartMut.{put_mid}
 use lib.Dec.{eqb}
-use Rattle.std.proofs.Common.{length-take}
-use Rattle.std.specs.Bool.{Decides}
-use Rattle.std.specs.List.{slice_range, starts_with}
+use Rattle.std.specs.List.{slice_range}
+use Rattle.std.specs.Array.{IsFirstChunk}
+use Rattle.std.specs.Option.{MatchOption, option_eq}
+use Rattle.std.specs.Cmp.Lexicographic.{pointwise}
+use Rattle.std.proofs.Common.{Option, Some, None, Bor}
 use Rattle.std.proofs.lemmas.Bool.Decides.{Decides-eqb}
 use Rattle.std.proofs.lemmas.Slice.Eq.{slice_eq-Decides}
 use lib.ListN.{length, take, drop, get_or, length-drop}
@@ -19,7 +21,7 @@ use Rattle.transducer.specs.Transition.{firsts}
 use Rattle.transducer.proofs.Bools.{le_or_lt}
 use Rattle.transducer.proofs.LineLaws.{get_d_firsts}
 use Rattle.product.specs.Numbers.{no_transition}
-use Rattle.outputs.specs.Outputs.{entry, written_places, count_at, codes_at, Entries, Appends, HeldAt}
+use Rattle.outputs.specs.Outputs.{entry, count_at, codes_at, Entries, Appends}
 use Rattle.outputs.proofs.OutputLaws.{firsts_same, length_codes}
 
 -- ---- copying
@@ -64,32 +66,6 @@ appends_codes {written} o l low {before} {part} {p} k room e =
     (appends_copied before part p k (count_at written l) room (omega (arith, ap length is, length-take-le most_outputs all (omega (arith, length-drop (l * entry + 1) written, o.long)))))
 
 -- ---- comparing
-
--- codes that a buffer begins with behind its first p places
-pub held_exactly : {written : List ℕ} → Entries written → (l : ℕ) → l ≤ no_transition → (word : List ℕ) (p : ℕ) → p ≤ length word → {r : Bool}
-    → r ≡ starts_with eqb (slice_range word p (length word)) (slice_range written (l * entry + 1) (l * entry + 1 + count_at written l))
-    → (r ≡ true) ↔ HeldAt word p (codes_at written l)
-held_exactly {written} o l low word p room {r} e = (there, back)
-  where
-    codes : List ℕ
-    codes = codes_at written l
-
-    is : slice_range written (l * entry + 1) (l * entry + 1 + count_at written l) ≡ codes
-    is = ap (λ m. take m (drop (l * entry + 1) written)) (let n : l * entry + 1 + count_at written l - (l * entry + 1) ≡ count_at written l = omega arith in n) ∙ sym (codes_part o l low)
-
-    rest : slice_range word p (length word) ≡ drop p word
-    rest = take_all (length word - p) (drop p word) (omega (arith, length-drop p word))
-
-    decides : Decides r (codes ≡ take (length codes) (drop p word))
-    decides = slice_eq-Decides Decides-eqb codes (take (length codes) (drop p word)) r (rw (is, rest) at e)
-
-    there : r ≡ true → HeldAt word p codes
-    there h =
-        let same = decides.0 h in
-        record { within = omega (arith, ap length same, length-take (length codes) (drop p word), length-drop p word); is = sym same }
-
-    back : HeldAt word p codes → r ≡ true
-    back h = decides.1 (sym h.is)
 
 -- the places of an entry
 abbrev pub entry_at : List ℕ → ℕ → List ℕ
@@ -147,15 +123,24 @@ same_exactly {written} o l m low low' = (there, back)
     back e =
         ext_get_or 0 (entry_at written l) (entry_at written m) (long l low ∙ sym (long m low')) (λ i h. each e i (omega (arith, long l low)))
 
--- the places of an entry begin what stands in the list from its place on
-pub begins_exactly : {written : List ℕ} → Entries written → (l m : ℕ) → l ≤ no_transition → m ≤ no_transition → {r : Bool}
-    → r ≡ starts_with eqb (slice_range written (l * entry) written_places) (entry_at written m) → (r ≡ true) ↔ (codes_at written l ≡ codes_at written m)
-begins_exactly {written} o l m low low' {r} e =
-    let rest = drop (l * entry) written in
-    let all : slice_range written (l * entry) written_places ≡ rest = take_all (written_places - l * entry) rest (omega (arith, length-drop (l * entry) written, o.long)) in
-    let size : length (entry_at written m) ≡ l * entry + entry - l * entry =
-    omega (arith, length-take-le (m * entry + entry - m * entry) (drop (m * entry) written) (omega (arith, length-drop (m * entry) written, o.long)))
-    in
-    let d = slice_eq-Decides Decides-eqb (entry_at written m) (entry_at written l) r (rw (all, size) at e) in
+-- an entry has so many places
+entry_long : {written : List ℕ} → Entries written → (l : ℕ) → l ≤ no_transition → length (entry_at written l) ≡ entry
+entry_long {written} o l low = omega (arith, length-take-le (l * entry + entry - l * entry) (drop (l * entry) written) (omega (arith, length-drop (l * entry) written, o.long)))
+
+-- taken as an array it is whole
+entry_chunk : {written : List ℕ} → Entries written → (l : ℕ) → l ≤ no_transition → {list : List ℕ} → IsFirstChunk (entry_at written l) list entry → list ≡ entry_at written l
+entry_chunk {written} o l low p = p.same ∙ take_all entry (entry_at written l) (omega (arith, entry_long o l low))
+
+-- two entries, taken as arrays
+pub chunks_exactly : {written : List ℕ} → Entries written → (l m : ℕ) → l ≤ no_transition → m ≤ no_transition → (a b : Option (Bor (List ℕ))) → {r : Bool}
+    → MatchOption a (length (entry_at written l) < entry) (λ x. IsFirstChunk (entry_at written l) x.now entry)
+    → MatchOption b (length (entry_at written m) < entry) (λ y. IsFirstChunk (entry_at written m) y.now entry)
+    → r ≡ option_eq (λ x y. pointwise eqb x.now y.now) a b → (r ≡ true) ↔ (codes_at written l ≡ codes_at written m)
+chunks_exactly o l m low low' None b p q e = absurd (omega (arith, p, entry_long o l low))
+chunks_exactly o l m low low' (Some x) None p q e = absurd (omega (arith, q, entry_long o m low'))
+chunks_exactly o l m low low' (Some x) (Some y) {r} p q e =
+    let d = slice_eq-Decides Decides-eqb x.now y.now r e in
     let s = same_exactly o l m low low' in
-    (λ h. s.0 (sym (d.0 h)), λ h. d.1 (sym (s.1 h)))
+    let left = entry_chunk o l low p in
+    let right = entry_chunk o m low' q in
+    (λ h. s.0 (sym left ∙ d.0 h ∙ right), λ h. d.1 (left ∙ s.1 h ∙ sym right))

@@ -1,6 +1,6 @@
 -- The ways into and out of the useful pairs. A way is kept as links: for each pair the number of the next one, plus 1, and the label of the step
 -- between the two; 0 where the way ends.
-use Rattle.std.specs.Prelude.{cond, ◌≡◌, List, ◌↔◌, ◌≢◌, ℕ, ◌+◌, ◌-◌, ◌≤◌, ◌<◌, eqb, length, get_or, Ok}
+use Rattle.std.specs.Prelude.{cond, ◌≡◌, List, ◌↔◌, ◌≢◌, ℕ, ◌+◌, ◌-◌, ◌≤◌, ◌<◌, eqb, length, get_or, replicate, Ok}
 use Rattle.worklist.specs.Lists.{Worklist, Found}
 use Rattle.worklist.specs.Search.{Grown, Chain}
 use Rattle.worklist.specs.Links.{way_from}
@@ -10,6 +10,7 @@ use Rattle.transducer.specs.declared.Transducer.{Transducer}
 use Rattle.product.specs.Numbers.{most_pairs, first_of, second_of, PairIn, Moves}
 use Rattle.pairs.specs.UsefulPairs.{UsefulPairsOf}
 use Rattle.pairs.specs.declared.UsefulPairs.{UsefulPairs}
+use Rattle.pairs.specs.declared.Links.{Links}
 
 -- the pair v is useful
 abbrev pub Useful : Transducer → ℕ → Type 0
@@ -74,6 +75,10 @@ module _ (t : Transducer) (ends : StateSet) (Leads : ℕ → ℕ → ℕ → Typ
     pub found : (v : ℕ) → Found s v ↔ Useful t v
 
 -- ---- from the lists of a search to links
+
+-- links of which no pair has one
+unfoldable pub blank_links : Links
+blank_links = record { link = replicate most_pairs 0; label = replicate most_pairs 0 }
 
 -- what stands for a parent in the links: the parent is given as 1 + its place, and becomes 1 + the pair at that place; a root has none, 0
 unfoldable pub link_of : List ℕ → ℕ → ℕ

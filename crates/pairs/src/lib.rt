@@ -3,7 +3,7 @@
 // `Discovered` and `WayIn`, what `ways_out` and `ways_in` leave. specs/Promises.antt has what else the verdict may know of the pairs.
 #![tactic(auto)]
 
-ghost use Rattle.std.specs.Prelude.{true, false, ◌≡◌, ℕ, ◌-◌, ◌≤◌, ◌<◌, get_or, Ok};
+ghost use Rattle.std.specs.Prelude.{true, false, ◌≡◌, ℕ, ◌-◌, ◌≤◌, ◌<◌, length, get_or, Ok};
 ghost use Rattle.worklist.specs.Search.{Blank};
 ghost use Rattle.transducer.specs.Valid.{Valid};
 ghost use Rattle.transducer.specs.Accepted.{accepted_of};
@@ -12,7 +12,7 @@ ghost use Rattle.product.specs.Machine.{ImageOf};
 ghost use Rattle.product.specs.Numbers.{most_pairs};
 ghost use Rattle.product.specs.Confined.{Marked};
 ghost use Rattle.pairs.specs.UsefulPairs.{has_pair, is_member, no_pairs_of, pair_set_of, UsefulPairsOf};
-ghost use Rattle.pairs.specs.Ways.{MovesBack, Tree, WaysOut, Discovered, WayIn, link_of, Traced, Linked};
+ghost use Rattle.pairs.specs.Ways.{MovesBack, Tree, WaysOut, Discovered, WayIn, blank_links, link_of, Traced, Linked};
 
 use product::machine::Machine;
 use product::search;
@@ -67,20 +67,30 @@ impl PairSet {
 }
 
 impl Links {
-    // The links of the pairs that a search has found: for the pair at each place, 1 + the pair at its parent's place, or 0 for a root; and the label of
-    // the step between the two.
-    fn along(found: &Search<PAIRS>) -> Links
-        requires { Traced found.now.order found.now.parent found.now.via found.now.count }
-        ensures { Linked found.now.order found.now.parent found.now.via result.link result.label found.now.count }
+    // Links of which no pair has one: memory for a way.
+    #[tactic(auto, unfolding(crate::specs::Ways::blank_links))]
+    pub fn new() -> Links
+        ensures { result ≡ blank_links }
     {
-        let mut link = [0u16; PAIRS];
-        let mut label = [0u32; PAIRS];
+        Links {
+            link: [0; PAIRS],
+            label: [0; PAIRS],
+        }
+    }
+
+    // Makes these the links of the pairs that a search has found: for the pair at each place, 1 + the pair at its parent's place, or 0 for a root; and the
+    // label of the step between the two. They are lent: handed back, they would be copied more than once.
+    fn follow(&mut self, found: &Search<PAIRS>)
+        requires { Traced found.now.order found.now.parent found.now.via found.now.count }
+        ensures linked { Linked found.now.order found.now.parent found.now.via self.new.link self.new.label found.now.count }
+        ensures long { (length self.new.link ≡ most_pairs) × (length self.new.label ≡ most_pairs) }
+    {
+        self.link = [0; PAIRS];
         for place in 0..found.count() {
             let v = found.node(place) as usize;
-            link[v] = link_to(found, found.parent(place));
-            label[v] = found.via(place);
+            self.link[v] = link_to(found, found.parent(place));
+            self.label[v] = found.via(place);
         }
-        Links { link, label }
     }
 }
 
@@ -92,38 +102,42 @@ pub fn useful_pairs(t: Transducer) -> Result<UsefulPairs, Refusal>
         return Err(Refusal::Invalid);
     }
     let m = Machine::by_input(t);
+    let back = Machine::by_input_reversed(t);
     let mut found = Search::<PAIRS>::new();
-    let (pairs, _) = ways_out(t, &m, &mut found);
-    Ok(pairs)
+    search_back(t, &m, &back, &mut found);
+    Ok(found_pairs(&found))
 }
 
-// The useful pairs of t, which is accepted and whose machine is m, and for each a way out. `found` is left with the useful pairs in the order in which
-// they were found: each after the one to which its link leads.
+// The useful pairs of t, which is accepted and whose machine is m; `out` is made the ways out of them, whatever it held. `found` is left with the useful pairs
+// in the order in which they were found: each after the one to which its link leads.
 #[inline(never)]
-pub fn ways_out(t: Transducer, m: &Machine, found: &mut Search<PAIRS>) -> (UsefulPairs, Links)
+pub fn ways_out(
+    t: Transducer,
+    m: &Machine,
+    found: &mut Search<PAIRS>,
+    out: &mut Links,
+) -> UsefulPairs
     requires t_value { accepted_of t ≡ true }
     requires image_of { ImageOf t false m.now }
     requires blank { Blank most_pairs found.old }
-    ensures ways_out { WaysOut t result.0 result.1.link result.1.label }
-    ensures discovered { Discovered t result.1.link found.new.order found.new.count }
-    ensures count { result.0.count ≡ found.new.count }
+    ensures ways_out { WaysOut t result out.new.link out.new.label }
+    ensures long { (length out.new.link ≡ most_pairs) × (length out.new.label ≡ most_pairs) }
+    ensures discovered { Discovered t out.new.link found.new.order found.new.count }
+    ensures count { result.count ≡ found.new.count }
 {
     let back = Machine::by_input_reversed(t);
     search_back(t, m, &back, found);
-    let pairs = UsefulPairs {
-        set: set_of(found.ranks()),
-        count: found.count() as u16,
-    };
-    (pairs, Links::along(found))
+    out.follow(found);
+    found_pairs(found)
 }
 
-// For each useful pair of t, those that `ways_out` has found, a way in. The search is confined to the useful pairs.
+// Makes `into` a way in for each useful pair of t, those that `ways_out` has found, whatever it held. The search is confined to the useful pairs.
 #[inline(never)]
-pub fn ways_in(t: Transducer, m: &Machine, pairs: UsefulPairs) -> Links
+pub fn ways_in(t: Transducer, m: &Machine, pairs: UsefulPairs, into: &mut Links)
     requires t_value { accepted_of t ≡ true }
     requires image_of { ImageOf t false m.now }
     requires useful_pairs_of { UsefulPairsOf t (Ok pairs) }
-    ensures { WayIn t pairs.count result.link result.label }
+    ensures { WayIn t pairs.count into.new.link into.new.label }
 {
     let allowed = mark(pairs.set);
     let mut found = Search::<PAIRS>::new();
@@ -134,7 +148,7 @@ pub fn ways_in(t: Transducer, m: &Machine, pairs: UsefulPairs) -> Links
         allowed: &allowed,
     };
     forward.search(&mut found);
-    Links::along(&found)
+    into.follow(&found);
 }
 
 // 1 for each pair in the set, 0 for each other.
@@ -174,25 +188,36 @@ fn search_back(t: Transducer, m: &Machine, back: &Machine, found: &mut Search<PA
 {
     let mut all = [0u32; PAIRS];
     search::mark_states(t.states, t.states, &mut all);
-    let mut reached = Search::<PAIRS>::new();
     let forward = Confined {
         product: Product::new(m, m),
         starts: t.starts,
         starts2: t.starts,
         allowed: &all,
     };
-    forward.search(&mut reached);
-    let allowed = reached.ranks();
+    forward.search(found);
+    let mut reached = [0u32; PAIRS];
+    found.again(&mut reached);
     let backward = Confined {
         product: Product::new(back, back),
         starts: t.finals,
         starts2: t.finals,
-        allowed,
+        allowed: &reached,
     };
     backward.search(found);
 }
 
-// The pairs that a search has found: those whose rank is not 0.
+// The pairs that a search has found, and how many they are.
+fn found_pairs(found: &Search<PAIRS>) -> UsefulPairs
+    requires { found.now.count ≤ most_pairs }
+    ensures { result ≡ record { set = pair_set_of found.now.rank; count = found.now.count } }
+{
+    UsefulPairs {
+        set: set_of(found.ranks()),
+        count: found.count() as u16,
+    }
+}
+
+// Those pairs: the ones whose rank is not 0.
 fn set_of(rank: &[u32; PAIRS]) -> PairSet
     ensures { result ≡ pair_set_of rank.now }
 {

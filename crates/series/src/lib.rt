@@ -35,7 +35,8 @@ pub fn join(first: Transducer, second: Transducer) -> Result<Transducer, Refusal
     let left = Machine::by_output(first);
     let right = Machine::by_input(second);
     let product = Product::new(&left, &right);
-    let pairs = joints::joined_pairs(first, second, &product);
+    let mut pairs = [0u32; PAIRS];
+    joints::joined_pairs(&first, &second, &product, &mut pairs);
     make(&Series {
         first: &first,
         second: &second,

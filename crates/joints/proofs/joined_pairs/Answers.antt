@@ -9,10 +9,11 @@ pub returns : goal.returns
 unfolding reversed_of
 returns c =
     let a = c.requires in
-    pairs_found
+    rw c.ranks.ensures
+    (pairs_found
     (record { valid = a.valid; valid' = a.valid_2; one_code = a.first_value; image = a.image_of; image' = a.image_of_2 })
-    c.reversed-left.ensures.image_of
-    c.reversed-left.ensures.image_of_2
+    c.first_reversed-left.ensures
+    c.second_reversed-right.ensures
     (marked_states a.valid.few_states a.valid_2.few_states c.mark_states.ensures)
-    c.found-reached.ensures
-    (rw (c.new.ensures.left, c.new.ensures.right) at c.found.ensures)
+    (rw c.again.ensures.ranks c.find.ensures)
+    (rw (c.new.ensures.left, c.new.ensures.right) at c.find-2.ensures))

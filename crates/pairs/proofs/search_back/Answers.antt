@@ -12,4 +12,4 @@ returns c =
     let r = c.requires in
     tree_out r.valid (marked_states r.valid.few_states r.valid.few_states c.mark_states.ensures)
     (exact_image r.image_of (rw (c.new.ensures.left, c.new.ensures.right) at c.search.ensures))
-    (exact_image r.image_of_2 (rw (c.new-2.ensures.left, c.new-2.ensures.right, c.ranks-allowed.ensures) at c.search-2.ensures))
+    (exact_image r.image_of_2 (rw (c.new-2.ensures.left, c.new-2.ensures.right, c.again.ensures.ranks) at c.search-2.ensures))

@@ -1,5 +1,4 @@
 -- `ways_in` meets its contract: the search finds the useful pairs again, and the ways in are read off it. Assumes nothing.
-use Rattle.std.proofs.Common.{arith}
 use Rattle.transducer.proofs.AcceptedLaws.{accepted_valid}
 use Rattle.pairs.proofs.UsefulLaws.{exact_image}
 use Rattle.pairs.proofs.TreeLaws.{tree_in}
@@ -13,4 +12,4 @@ returns c =
     let tree =
     tree_in (accepted_valid _ r.t_value) (marked_useful r.t_value r.useful_pairs_of c.mark-allowed.ensures)
     (exact_image r.image_of (rw (c.new.ensures.left, c.new.ensures.right) at c.search.ensures)) in
-    useful_way r.t_value tree c.along.ensures (omega arith) r.useful_pairs_of
+    useful_way r.t_value tree c.follow.ensures.linked c.follow.ensures.long.0 r.useful_pairs_of

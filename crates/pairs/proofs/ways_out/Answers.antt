@@ -1,5 +1,4 @@
 -- `ways_out` meets its contract: the ways out are read off the search from the final states. Assumes nothing.
-use Rattle.std.proofs.Common.{arith}
 use Rattle.transducer.proofs.AcceptedLaws.{accepted_valid}
 use Rattle.pairs.proofs.PairSetLaws.{answer}
 use Rattle.pairs.proofs.WayLaws.{tree_way, tree_order}
@@ -15,9 +14,9 @@ pub returns-clause-ways_out : goal.returns-clause-ways_out
 returns-clause-ways_out c =
     let tree = c.search_back.ensures in
     record {
-      pairs = rw (c.set_of.ensures, c.ranks.ensures, c.count.ensures) (answer c.requires.t_value tree);
-      way_out = rw c.count.ensures (tree_way tree c.along.ensures (omega arith));
+      pairs = rw c.found_pairs.ensures (answer c.requires.t_value tree);
+      way_out = rw c.found_pairs.ensures (tree_way tree c.follow.ensures.linked c.follow.ensures.long.0);
     }
 
 pub returns-clause-discovered : goal.returns-clause-discovered
-returns-clause-discovered c = tree_order c.search_back.ensures c.along.ensures
+returns-clause-discovered c = tree_order c.search_back.ensures c.follow.ensures.linked

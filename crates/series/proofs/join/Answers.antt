@@ -17,4 +17,4 @@ returns-then-not-one_code c =
 pub returns : goal.returns
 returns c =
     join_made (sym c.accepted.ensures.answer ∙ c.if-not-accepted.false) (sym c.accepted-2.ensures.answer ∙ c.if-not-accepted-2.false)
-    (sym c.one_code.ensures ∙ c.if-not-one_code.false) c.joined_pairs-pairs.ensures c.make.ensures
+    (sym c.one_code.ensures ∙ c.if-not-one_code.false) c.joined_pairs.ensures c.make.ensures

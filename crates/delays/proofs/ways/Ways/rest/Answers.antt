@@ -6,46 +6,46 @@ use Rattle.delays.proofs.ways.Ways.rest.Goals as goal
 
 pub slice_bounds-result-count : goal.slice_bounds-result-count
 slice_bounds-result-count c =
-    let counts = rw (← c.self.view_is) at c.requires.counts in
+    let led = rw (← c.self.view_is) at c.requires.led in
     let held = rw (← c.self.view_is) at c.requires.held in
     let g = c.self.invariant in
-    let o = onward g.lists.links c.self.inside.written.now (g.ways c.args.v counts.0 counts.1) (rw (← c.self.view_is) at c.requires.ahead) in
+    let o = onward g.lists.links c.self.inside.written.now led (rw (← c.self.view_is) at c.requires.ahead) in
     let is = c.from-m.ensures ∙ (rw (c.label-label.ensures, ← c.self.view_is) at c.count.ensures) in
     (rest_next false o held.lefts is).0
 
 pub slice_bounds-result-start : goal.slice_bounds-result-start
 slice_bounds-result-start c =
-    let counts = rw (← c.self.view_is) at c.requires.counts in
+    let led = rw (← c.self.view_is) at c.requires.led in
     let held = rw (← c.self.view_is) at c.requires.held in
     let g = c.self.invariant in
-    let o = onward g.lists.links c.self.inside.written.now (g.ways c.args.v counts.0 counts.1) (rw (← c.self.view_is) at c.requires.ahead) in
+    let o = onward g.lists.links c.self.inside.written.now led (rw (← c.self.view_is) at c.requires.ahead) in
     let is = c.from-m.ensures ∙ (rw (c.label-label.ensures, ← c.self.view_is) at c.count.ensures) in
     (rest_next false o held.lefts is).0
 
 pub slice_bounds-result-count-2 : goal.slice_bounds-result-count-2
 slice_bounds-result-count-2 c =
-    let counts = rw (← c.self.view_is) at c.requires.counts in
+    let led = rw (← c.self.view_is) at c.requires.led in
     let held = rw (← c.self.view_is) at c.requires.held in
     let g = c.self.invariant in
-    let o = onward g.lists.links c.self.inside.written.now (g.ways c.args.v counts.0 counts.1) (rw (← c.self.view_is) at c.requires.ahead) in
+    let o = onward g.lists.links c.self.inside.written.now led (rw (← c.self.view_is) at c.requires.ahead) in
     let is = c.from-n.ensures ∙ (rw (c.label-label.ensures, ← c.self.view_is) at c.count-2.ensures) in
     (rest_next true o held.rights is).0
 
 pub slice_bounds-result-start-2 : goal.slice_bounds-result-start-2
 slice_bounds-result-start-2 c =
-    let counts = rw (← c.self.view_is) at c.requires.counts in
+    let led = rw (← c.self.view_is) at c.requires.led in
     let held = rw (← c.self.view_is) at c.requires.held in
     let g = c.self.invariant in
-    let o = onward g.lists.links c.self.inside.written.now (g.ways c.args.v counts.0 counts.1) (rw (← c.self.view_is) at c.requires.ahead) in
+    let o = onward g.lists.links c.self.inside.written.now led (rw (← c.self.view_is) at c.requires.ahead) in
     let is = c.from-n.ensures ∙ (rw (c.label-label.ensures, ← c.self.view_is) at c.count-2.ensures) in
     (rest_next true o held.rights is).0
 
-pub returns : goal.returns
-returns c =
-    let counts = rw (← c.self.view_is) at c.requires.counts in
+pub returns-clause-held : goal.returns-clause-held
+returns-clause-held c =
+    let led = rw (← c.self.view_is) at c.requires.led in
     let held = rw (← c.self.view_is) at c.requires.held in
     let g = c.self.invariant in
-    let o = onward g.lists.links c.self.inside.written.now (g.ways c.args.v counts.0 counts.1) (rw (← c.self.view_is) at c.requires.ahead) in
+    let o = onward g.lists.links c.self.inside.written.now led (rw (← c.self.view_is) at c.requires.ahead) in
     let m = c.from-m.ensures ∙ (rw (c.label-label.ensures, ← c.self.view_is) at c.count.ensures) in
     let n = c.from-n.ensures ∙ (rw (c.label-label.ensures, ← c.self.view_is) at c.count-2.ensures) in
     rw (← c.self.view_is) (record { lefts = (rest_next false o held.lefts m).1; rights = (rest_next true o held.rights n).1 })

@@ -8,9 +8,9 @@ use Rattle.delays.proofs.ways.Ways.whole.Goals as goal
 pub put-to-requires-clause-most_outputs_in_bounds :
     goal.put-to-requires-clause-most_outputs_in_bounds
 put-to-requires-clause-most_outputs_in_bounds c =
-    let counts = rw (← c.self.view_is) at c.requires.counts in
+    let led = rw (← c.self.view_is) at c.requires.led in
     let g = c.self.invariant in
-    omega (arith, pending_room c.loop-next.invariant (omega arith) g.lists (g.ways c.args.v counts.0 counts.1))
+    omega (arith, pending_room c.loop-next.invariant (omega arith) g.lists led)
 
 pub loop-next-smaller : goal.loop-next-smaller
 loop-next-smaller c =
@@ -19,17 +19,16 @@ loop-next-smaller c =
 
 pub loop-next-preserved : goal.loop-next-preserved
 loop-next-preserved c =
-    let counts = rw (← c.self.view_is) at c.requires.counts in
+    let led = rw (← c.self.view_is) at c.requires.led in
     let g = c.self.invariant in
     let i = c.loop-next.invariant in
     let ahead = onward_to g.lists.links c.self.inside.written.now i.here c.in-Some.ensures in
-    let room = pending_room i (omega arith) g.lists (g.ways c.args.v counts.0 counts.1) in
+    let room = pending_room i (omega arith) g.lists led in
     pending_more i (omega arith) g.lists ahead (omega (arith, room)) c.put-to.auto.word (rw (c.taken.ensures, c.label.ensures) at c.put-to.ensures)
 
 pub returns : goal.returns
 returns c =
-    let counts = rw (← c.self.view_is) at c.requires.counts in
+    let led = rw (← c.self.view_is) at c.requires.led in
     let g = c.self.invariant in
-    let led = g.ways c.args.v counts.0 counts.1 in
     let w = pending_whole c.loop-next.invariant (omega arith) c.in_default.ensures in
     rw (← c.self.view_is) (record { word = w; short = omega (arith, w.place, word_short g.lists (is_right c.args.side) led) })
