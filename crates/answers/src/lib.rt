@@ -79,7 +79,7 @@ pub fn give<const N: usize>(answer: &mut [u64], numbers: Result<[u64; N], Refusa
 {
     match numbers {
         Ok(numbers) => {
-            answer[0..N].copy_from_slice(&numbers);
+            put_numbers(answer, &numbers);
             0
         }
         Err(refusal) => refusal.number() as u32,
@@ -123,6 +123,14 @@ pub fn give_table(memory: &mut [u8], made: Result<Transducer, FileRefusal>) -> u
         }
         Err(refusal) => code(refusal),
     }
+}
+
+// Puts numbers to the front of a list.
+pub fn put_numbers(list: &mut [u64], numbers: &[u64])
+    requires { length numbers.now ≤ length list.old }
+    ensures { list.new ≡ put list.old 0 numbers.now }
+{
+    list[0..numbers.len()].copy_from_slice(numbers);
 }
 
 // Puts flags to the front of a list, 1 for true and 0 for false.

@@ -9,7 +9,7 @@ use native.Mathlib.Numerals.{add-one}
 use native.Mathlib.Omega.{arith}
 use lib.ListN.{length, get_or, length-append}
 use Rattle.buffers.specs.Put.{Room, Puts}
-use Rattle.buffers.proofs.PutsLaws.{puts_none, room_behind, puts_behind}
+use Rattle.buffers.proofs.PutsLaws.{puts_none, puts_length, room_behind, puts_behind}
 
 -- the parts below n, one after the other
 unfoldable pub below : (ℕ → List ℕ) → ℕ → List ℕ
@@ -46,6 +46,10 @@ module _ {bytes : List ℕ} {part : ℕ → List ℕ} {n : ℕ} {before : List �
   module _ {i : ℕ} {out : List ℕ} {at : ℕ} (p : Parts bytes part n before start i out at) where
     fits : (k : ℕ) → k ≤ n → Room before start (below part k)
     fits k h = record { room = omega (arith, below_length part n k h, ap length p.whole, p.room.room) }
+
+    -- the buffer keeps its length
+    pub parts_length : length out ≡ length before
+    parts_length = puts_length (fits i p.within) p.puts
 
     -- there is room for the next part
     pub part_room : i < n → Room out at (part i)

@@ -13,7 +13,7 @@ use std::marker::Model;
 use transducer::limits::STATES;
 
 // The places of the list.
-const FLAGS: usize = STATES * STATES;
+pub const FLAGS: usize = STATES * STATES;
 
 // The closures of all states, as one list of flags: the flag of q and p stands at the place 32 q + p. Flags stay numbers, 0 or 1: 32 of them are marked at
 // once as the larger of two bytes, and the passes end since fewer of them are 0 each time (`zeros`).

@@ -58,6 +58,7 @@ module _ (t : Transducer) (valid : Valid t) (shaped : Shaped t) where
 
 -- of an array of transitions: those from l + 1 to i have moved down one, the others stand where they stood
 pub record MovedTo (l i : ℕ) (before after : List Transition) : Type 0 where
+  pub from : l ≤ i
   pub long : length after ≡ most_transitions
   pub ahead : (j : ℕ) → j < l → get_or after j outside ≡ get_or before j outside
   pub moved : (j : ℕ) → l ≤ j → j < i → get_or after j outside ≡ get_or before (suc j) outside
@@ -76,6 +77,7 @@ moved_down {l} {i} {before} {part} le room long same =
     let back = drop (i - l) (drop l before) in
     let end : length back + i ≡ most_transitions = simp length-drop (omega arith) in
     record {
+      from = le;
       long = simp (length-append, size, front) (omega (arith, end));
       ahead = λ j h. get_or-append (take l before) (part ++ back) outside j (omega arith) ∙ get_or-take l before j outside h;
       moved = λ j h k.

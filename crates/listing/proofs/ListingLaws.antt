@@ -54,25 +54,25 @@ verdict_listing_room false u shared {w} {a} {b} {x} {y} r = record { room = omeg
 pub single_room : (u : ℕ) {out : List ℕ} → pair_bytes ≤ length out → Room out 0 (record_bytes listing_columns letter_v (0 ∷ u ∷ []))
 single_room u h = record { room = rw (length_record listing_columns letter_v (0 ∷ u ∷ [])) h }
 
-pub single_put : (u : ℕ) {next : ℕ} {out after : List ℕ} → Puts out 0 (record_bytes listing_columns letter_v (0 ∷ u ∷ [])) after next
-    → Puts out 0 (verdict_listing false u [] [] [] [] [] 0) after next
+pub single_put : (u : ℕ) (w a b x y : List ℕ) (shared : ℕ) {next : ℕ} {out after : List ℕ}
+    → Puts out 0 (record_bytes listing_columns letter_v (0 ∷ u ∷ [])) after next → Puts out 0 (verdict_listing false u w a b x y shared) after next
 unfolding verdict_listing
-single_put u p = rw (append-nil (record_bytes listing_columns letter_v (0 ∷ u ∷ []))) p
+single_put u w a b x y shared p = rw (append-nil (record_bytes listing_columns letter_v (0 ∷ u ∷ []))) p
 
 -- of a split one the witness comes behind it
 pub shown_room : {shown : Option Shown} {s : Shown} {out : List ℕ} → shown ≡ Some s → ShownRoom shown out
     → VerdictRoom s.word.now s.path_a.now s.path_b.now s.output_x.now s.output_y.now out
 shown_room e r = rw e at r
 
-module _ (u shared : ℕ) {w a b x y out : List ℕ} (r : VerdictRoom w a b x y out) where
+module _ (u : ℕ) (w a b x y : List ℕ) (shared : ℕ) {out : List ℕ} (r : Room out 0 (verdict_listing true u w a b x y shared)) where
   pub split_room : Room out 0 (record_bytes listing_columns letter_v (1 ∷ u ∷ []))
   unfolding verdict_listing
-  split_room = room_front (record_bytes listing_columns letter_v (1 ∷ u ∷ [])) (witness_listing w a b x y shared) (verdict_listing_room true u shared r)
+  split_room = room_front (record_bytes listing_columns letter_v (1 ∷ u ∷ [])) (witness_listing w a b x y shared) r
 
   module _ {mid : List ℕ} {next : ℕ} (p : Puts out 0 (record_bytes listing_columns letter_v (1 ∷ u ∷ [])) mid next) where
     pub witness_room : Room mid next (witness_listing w a b x y shared)
     unfolding verdict_listing
-    witness_room = room_behind (witness_listing w a b x y shared) (verdict_listing_room true u shared r) p
+    witness_room = room_behind (witness_listing w a b x y shared) r p
 
     pub split_put : {after : List ℕ} {end : ℕ} → Puts mid next (witness_listing w a b x y shared) after end
         → Puts out 0 (verdict_listing true u w a b x y shared) after end
@@ -81,17 +81,17 @@ module _ (u shared : ℕ) {w a b x y out : List ℕ} (r : VerdictRoom w a b x y 
 
 -- ---- the records of a witness, each behind those before it
 
-abbrev witness_parts : (w a b x y : List ℕ) → ℕ → List (List ℕ)
+abbrev pub witness_parts : (w a b x y : List ℕ) → ℕ → List (List ℕ)
 witness_parts w a b x y shared =
     counted_bytes listing_columns letter_w w ∷ counted_bytes listing_columns letter_a a ∷ counted_bytes listing_columns letter_b b
     ∷ counted_bytes listing_columns letter_x x ∷ counted_bytes listing_columns letter_y y ∷ record_bytes listing_columns letter_d (shared ∷ []) ∷ []
 
-witness_parts_lem : (w a b x y : List ℕ) (shared : ℕ) → witness_listing w a b x y shared ≡ below (in_row (witness_parts w a b x y shared)) 6
+pub witness_parts_lem : (w a b x y : List ℕ) (shared : ℕ) → witness_listing w a b x y shared ≡ below (in_row (witness_parts w a b x y shared)) 6
 unfolding witness_listing below
 witness_parts_lem w a b x y shared = refl
 
 -- the first i of them are put
-abbrev WitnessPut : (w a b x y : List ℕ) → ℕ → List ℕ → ℕ → ℕ → List ℕ → ℕ → Type 0
+abbrev pub WitnessPut : (w a b x y : List ℕ) → ℕ → List ℕ → ℕ → ℕ → List ℕ → ℕ → Type 0
 WitnessPut w a b x y shared out₀ at i out next =
     Parts (witness_listing w a b x y shared) (in_row (witness_parts w a b x y shared)) 6 out₀ at i out next
 

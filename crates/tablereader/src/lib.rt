@@ -90,7 +90,7 @@ fn end_fault(text: &[u8], at: usize) -> Option<Refusal>
 
 // The outcome of a check of the record of a number.
 // Stays a match: `map_or` with a closure is no plainer.
-fn outcome_of(fault: Option<Refusal>, record: u16) -> Result<(), FileRefusal>
+pub fn outcome_of(fault: Option<Refusal>, record: u16) -> Result<(), FileRefusal>
     ensures { result ≡ outcome_for fault «record» }
 {
     match fault {

@@ -1,7 +1,7 @@
 -- How the calls meet their contracts: what is answered of a value where it stands in a list, or in memory. Assumes nothing.
 use mathlib.Core.Path.{◌≡◌, refl, sym, ◌∙◌}
 use mathlib.Core.Bool.{Bool}
-use mathlib.Core.List.{List, []}
+use mathlib.Core.List.{List, [], ◌∷◌}
 use mathlib.Core.Logic.{◌≢◌}
 use Prim.Native.Nat.{ℕ}
 use native.Mathlib.Omega.{arith}
@@ -18,9 +18,12 @@ use Rattle.tablereader.specs.Outcome as outcome
 use Rattle.tablereader.specs.Outcome.{record_of, table_of_reading}
 use Rattle.tablereader.specs.declared.FileRefusal.{FileRefusal}
 use Rattle.held.specs.Held.{useful_at, set_at, table_in_of}
+use Rattle.pairs.specs.UsefulPairs.{UsefulPairsOf, found_of}
+use Rattle.pairs.specs.declared.UsefulPairs.{UsefulPairs}
 use Rattle.engine.specs.Engine.{on_file}
 use Rattle.answers.specs.Answers.{refusal_code, listed_of, Given, Flagged, HeldIn}
-use Rattle.unit.specs.Calls.{Call, Holding, LookGiven}
+use Rattle.answers.specs.Answers.{pairs_answer}
+use Rattle.unit.specs.Calls.{Call, Holding, Lent, LookGiven, PairsGiven}
 
 -- no list is too short
 pub begun : {Long Unchanged : Type 0} {Answers : ℕ → Type 0} {r : ℕ} → Long → Answers r → Call Long Unchanged Answers r
@@ -49,6 +52,12 @@ flagged_as (Err e) members s {flags} {flags'} {n} same made flagged =
     let other : n ≢ 0 = λ z. some (sym code ∙ z) in
     record { code = this_one _ code other; refused = one.refused; shown = λ z. absurd (other z) }
 
+-- those of a refusal
+pub flagged_refused : (e : Refusal) {members : List Bool} {flags : List ℕ} {n : ℕ} → n ≡ refusal_number e → Flagged (refusal_number e) members flags flags n
+flagged_refused e {n = n} same =
+    let other : n ≢ 0 = λ z. refusal_number_some e (sym same ∙ z) in
+    record { code = this_one _ same other; refused = λ _. refl; shown = λ z. absurd (other z) }
+
 -- ---- numbers
 
 -- those that are made of a value
@@ -60,6 +69,28 @@ given_as (Ok x) numbers (Err e) same made given = absurd made
 given_as (Err e) numbers s {a} {a'} {n} same made given =
     let one : Given (refusal_number e) [] a a' n = rw made at given in
     record { code = one.code; refused = one.refused; answered = λ z. absurd (refusal_number_some e (sym one.code ∙ z)) }
+
+-- ---- the useful pairs: flags, then their count
+
+module _ {h flags flags' a a' : List ℕ} {t : Transducer} {found : Result UsefulPairs Refusal} {n r : ℕ} (long : Lent pairs_answer a h)
+    (table : t ≡ table_in_of h) (useful : UsefulPairsOf t found) (number : n ≡ number_of found)
+    (flagged : Flagged n (found_of found).set.member flags flags' r)
+  where
+    given_pairs : Given r ((found_of found).count ∷ []) a a' r → PairsGiven h flags flags' a a' r
+    given_pairs given =
+        record { call = begun long (record { found = found; useful = rw table at useful; flagged = rw number at flagged; given = given }) }
+
+    -- refused: the answer list is as it was
+    pub pairs_refused : r ≢ 0 → a' ≡ a → PairsGiven h flags flags' a a' r
+    pairs_refused n kept = given_pairs (record { code = refl; refused = λ _. kept; answered = λ z. absurd (n z) })
+
+    -- or counted
+    pub pairs_counted : {s : ℕ} → r ≡ 0 → Given 0 ((found_of found).count ∷ []) a a' s → PairsGiven h flags flags' a a' s
+    pairs_counted none given =
+        let done : PairsGiven h flags flags' a a' r =
+        given_pairs (record { code = refl; refused = λ n. absurd (n none); answered = λ _. given.answered given.code })
+        in
+        rw (none ∙ sym given.code) at done
 
 -- ---- tables that are made
 

@@ -3,7 +3,7 @@
 // cite specs/Calls.antt; specs/Laws.antt says what they determine.
 #![tactic(auto)]
 
-ghost use Rattle.std.specs.Prelude.{◌≡◌, [], ◌∷◌};
+ghost use Rattle.std.specs.Prelude.{◌≡◌};
 ghost use Rattle.engine.specs.Engine as engine;
 ghost use Rattle.transducer.specs.Refusals.{list_too_short};
 ghost use Rattle.witness.specs.Showing.{buffers_of};
@@ -13,16 +13,12 @@ ghost use Rattle.unit.specs.Calls.{ReadGiven, WriteGiven, VerdictGiven, Translat
 ghost use Rattle.unit.specs.Calls.{AppendGiven, RemoveGiven, JoinGiven, DifferenceGiven};
 
 use held::SIZE;
-use pairs::UsefulPairs;
 use records::reading::MOST_FIELDS;
 use tablereader::FileRefusal;
 use transducer::limits::STATES;
 use transducer::refusals::Refusal;
 use transducer::{StateSet, Transducer};
 use witness::Lent;
-
-// The pairs of states.
-const PAIRS: usize = STATES * STATES;
 
 // The version of the calls, of their answers and of held tables: 2.0.
 const VERSION: u32 = 131072;
@@ -187,12 +183,16 @@ pub extern "C" fn yotselina_useful_pairs(table: &[u8], flags: &mut [u8], answer:
         return too_short();
     }
     let t = held::table_in(table);
-    let found = pairs::useful_pairs(t);
-    let refusal = answers::give_flags(flags, found.map(pairs));
+    let found = match pairs::useful_pairs(t) {
+        Ok(found) => found,
+        Err(refusal) => return refusal.number() as u32,
+    };
+    let set = found.set;
+    let refusal = answers::give_flags(flags, Ok(set.member));
     if refusal != 0 {
         return refusal;
     }
-    answers::give(answer, found.map(u))
+    answers::give(answer, Ok([found.count as u64]))
 }
 
 // Appends the line whose numbers are `line` to a held table, behind its last, in place.
@@ -270,20 +270,6 @@ fn members(states: StateSet) -> [bool; STATES]
     ensures { result ≡ states.member }
 {
     states.member
-}
-
-// The flags of useful pairs.
-fn pairs(found: UsefulPairs) -> [bool; PAIRS]
-    ensures { result ≡ found.set.member }
-{
-    found.set.member
-}
-
-// How many they are.
-fn u(found: UsefulPairs) -> [u64; 1]
-    ensures { result ≡ found.count ∷ [] }
-{
-    [found.count as u64]
 }
 
 // The refusal of a list that is shorter than the call needs before it can begin. Each call tests its lists itself: an inner function with `?` for each would

@@ -3,6 +3,7 @@
 use mathlib.Core.Path.{◌≡◌, sym, ap, ◌∙◌}
 use mathlib.Core.Bool.{false}
 use mathlib.Core.List.{List, append-nil}
+use mathlib.Core.Logic.{⊎_elim}
 use Prim.Native.Nat.{ℕ, ◌+◌, ◌*◌, ◌≤◌, ◌<◌}
 use native.Mathlib.Omega.{arith}
 use lib.ListN.{length, get_or, length-reverse}
@@ -23,6 +24,7 @@ use Rattle.worklist.proofs.Findings.{lengths, at_most, found_has_place}
 use Rattle.worklist.proofs.Chains.{way_is}
 use Rattle.worklist.proofs.WayBack.{older, chain_of, trail}
 use Rattle.product.specs.Machine.{ImageOf}
+use Rattle.product.proofs.ImageLaws.{edge_of}
 use Rattle.wordsearch.specs.Limits.{most_nodes}
 use Rattle.wordsearch.specs.Nodes.{state_of, Leads, Ends, Ended}
 use Rattle.wordsearch.specs.Answers.{Spells, Answered}
@@ -54,6 +56,7 @@ module _ {t : Transducer} (valid : Valid t) {m : List ℕ} (image : ImageOf t fa
               used = trail_used image input (trail g h chain);
               few = omega (arith, length_writes (λ l b. (valid.used l b).few_outputs) p.path, length-reverse (way_from s.parent s.via i), short, c.1, at_most g);
             };
+        used = λ k l n. ⊎_elim (λ y. absurd (n y.0)) (λ y. (edge_of image y.3.leaves).used) (g.why k (omega arith));
         accepting = record { first = p.first; last = _; starts = p.starts; path = p.path; ends = e.final };
         read = sym (append-nil _) ∙ rw (e.position ∙ sym (length_word input), drop-length (word_of input)) at p.read;
       }

@@ -1,5 +1,5 @@
 -- What the search answers: a place from which the parents lead back along an accepting path that reads the word, or that there is none.
-use Rattle.std.specs.Prelude.{◌≡◌, List, reverse, ℕ, ◌≤◌, ◌<◌, length, All, Option, MatchOption}
+use Rattle.std.specs.Prelude.{◌≡◌, ◌≢◌, List, reverse, ℕ, ◌≤◌, ◌<◌, length, get_or, All, Option, MatchOption}
 use Rattle.transducer.specs.Transition.{InputWord, OutputWord}
 use Rattle.transducer.specs.Paths.{reads, writes, Accepting, Relates}
 use Rattle.transducer.specs.declared.Transducer.{Transducer}
@@ -23,10 +23,12 @@ module _ (t : Transducer) where
     pub few : length (written way) ≤ most_written
 
   module _ (N : ℕ) (s : Worklist) where
-    -- the place is one of the search's, and the parents lead back from it along an accepting path that reads w
+    -- the place is one of the search's, and the parents lead back from it along an accepting path that reads w; the label of each place up to it that has
+    -- a parent is a transition of t
     pub record Spells (w : InputWord) (place : ℕ) : Type 0 where
       pub back : Back N s place
       pub traced : Traced (way_from s.parent s.via place)
+      pub used : (i : ℕ) → i ≤ place → get_or s.parent i 0 ≢ 0 → get_or s.via i 0 < t.count
       pub accepting : Accepting t (reverse (way_from s.parent s.via place))
       pub read : reads t (reverse (way_from s.parent s.via place)) ≡ w
 
