@@ -3,11 +3,14 @@
 // contracts cite specs/Engine.antt.
 #![tactic(auto)]
 
+ghost use Rattle.std.specs.Prelude.{◌≡◌};
+ghost use Rattle.tablereader.specs.Reader.{read_of};
 ghost use Rattle.witness.specs.Showing.{contents_of, SameMemory};
 ghost use Rattle.engine.specs.Engine.{Judged, FileTranslated};
 
 use functionality::Verdict;
 use tablereader::FileRefusal;
+use transducer::Transducer;
 use witness::Lent;
 
 // Reads a table file and tests whether its transducer is functional (document 01: the verdict). A witness that it is not is put into the five
@@ -16,8 +19,17 @@ pub fn judge(text: &[u8], lent: &mut Lent) -> Result<Verdict, FileRefusal>
     ensures same_memory { SameMemory lent.old lent.new }
     ensures judged { Judged text.now (contents_of lent.old) (contents_of lent.new) result }
 {
-    let table = tablereader::read(text)?;
+    let table = table_of(text)?;
     Ok(functionality::decide(table, lent)?)
+}
+
+// The table of a file. A function of its own: what the reading uses is no longer in memory where the verdict is made. Where a word is translated it stays
+// inlined: there nothing is deeper than the reading.
+#[inline(never)]
+fn table_of(text: &[u8]) -> Result<Transducer, FileRefusal>
+    ensures { result ≡ read_of text.now }
+{
+    tablereader::read(text)
 }
 
 // Reads a table file and writes the output of the word `input` by its table to the front of `out`, and returns its length; or refuses, and writes

@@ -10,7 +10,7 @@ use Rattle.delays.specs.declared.equation.StepTo.{StepTo}
 use Rattle.equations.specs.declared.At.{At}
 use Rattle.equations.specs.declared.At.TheVariants.{Start, Step}
 use Rattle.equations.specs.declared.Failure.{Failure}
-use Rattle.equations.specs.declared.testing.OnWay.{OnWay}
+use Rattle.delays.specs.declared.equation.OnWay.{OnWay}
 
 -- what the tests are of: the start states, the machine, and the ways out of the pairs that count
 pub record TestLists : Type 0 where

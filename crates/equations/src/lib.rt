@@ -44,19 +44,19 @@ pub struct Failure {
 // they were found, `out` the ways out of them. The memory is cleared first: behind other work it would be cleared twice.
 #[inline(never)]
 pub fn search<'a>(
-    t: Transducer,
+    t: &Transducer,
     m: &'a Machine,
     out: &'a pairs::Links,
     found: &Search<PAIRS>,
 ) -> Option<Failure>
-    requires listed { Listed t found.now.count out.now.link out.now.label found.now.order }
-    requires image_of { ImageOf t false m.now }
-    ensures { Tested t out.now.link out.now.label result }
+    requires listed { Listed t.now found.now.count out.now.link out.now.label found.now.order }
+    requires image_of { ImageOf t.now false m.now }
+    ensures { Tested t.now out.now.link out.now.label result }
 {
     let mut tested = [false; PAIRS];
     let mut sides = Words::new();
     let mut needs = Words::new();
-    let written = Outputs::of(t);
+    let written = Outputs::of(*t);
     let links = PairLinks {
         link: &out.link,
         label: &out.label,

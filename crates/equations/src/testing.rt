@@ -5,7 +5,7 @@ ghost use Rattle.delays.specs.WaysOut.{level};
 ghost use Rattle.delays.specs.Needs.{Passes, OneEmpty, Equation};
 
 use crate::{At, Failure};
-use delays::equation::StepTo;
+use delays::equation::{OnWay, StepTo};
 use delays::sides::{Sides, Words};
 use delays::ways::Ways;
 use product::machine::Machine;
@@ -34,14 +34,8 @@ impl<'a> Model for Tests<'a> {
     ghost invariant = { λ x. Measured (record { starts = x.starts; machine = x.machine.now; ways = x.ways }) };
 }
 
-// A pair on a way out, and two lists that begin with what the two sides of the way out of it write.
-// What these words and flags are stays a clause (`NextHeld`, `NeedsAt`, `Flagged`): it is said by the lists of the tests, which they do not have.
-#[derive(Clone, Copy)]
-pub struct OnWay<'a> {
-    pub pair: usize,
-    pub sides: Sides<'a>,
-}
-
+// What the next pair on a way has, what is needed and the flags stays a clause (`NextHeld`, `NeedsAt`, `Flagged`): it is said by the lists of the tests,
+// which they do not have.
 impl Tests<'_> {
     ghost use Rattle.equations.specs.Loops.{Places, NextHeld, NeedsAt, Seen, Counts, EquationFrom, StepsTried, PairTried, AllTried, Flagged, WayTried};
 
@@ -213,10 +207,6 @@ impl Tests<'_> {
         {
             return true;
         }
-        let sides = match next {
-            Some(next) if next.pair == step.to => Some(next.sides),
-            _ => None,
-        };
-        self.ways.passes(step, sides, needs)
+        self.ways.passes(step, next, needs)
     }
 }

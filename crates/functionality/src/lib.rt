@@ -3,7 +3,7 @@
 #![tactic(auto)]
 
 ghost use Rattle.std.specs.Prelude.{◌≡◌, true, false, Ok};
-ghost use Rattle.transducer.specs.Accepted.{accepted_of};
+ghost use Rattle.transducer.specs.Accepted.{Asked, accepted_of};
 ghost use Rattle.product.specs.Machine.{ImageOf};
 ghost use Rattle.witness.specs.Showing.{contents_of, SameMemory};
 ghost use Rattle.equations.specs.Tests.{Standing, Differing, Tested};
@@ -32,13 +32,21 @@ pub fn decide(t: Transducer, lent: &mut Lent) -> Result<Verdict, Refusal>
     ensures same_memory { SameMemory lent.old lent.new }
     ensures decided { Decided t (contents_of lent.old) (contents_of lent.new) result }
 {
-    if !useful::accepted(t) {
+    if !accepted(&t) {
         return Err(Refusal::Invalid);
     }
     if !full(lent) {
         return Err(Refusal::TooShort);
     }
-    Ok(examine(t, lent))
+    Ok(examine(&t, lent))
+}
+
+// Whether t is accepted. A function of its own: what it works with is no longer in memory where the verdict is made.
+#[inline(never)]
+fn accepted(t: &Transducer) -> bool
+    ensures { Asked t.now result }
+{
+    useful::accepted(*t)
 }
 
 // Whether the five buffers are lent in full.
@@ -55,13 +63,13 @@ fn full(lent: &Lent) -> bool
 
 // The verdict on a transducer that is accepted, with buffers in full.
 #[inline(never)]
-fn examine(t: Transducer, lent: &mut Lent) -> Verdict
-    requires t_value { accepted_of t ≡ true }
+fn examine(t: &Transducer, lent: &mut Lent) -> Verdict
+    requires t_value { accepted_of t.now ≡ true }
     requires full { full_of (contents_of lent.old) ≡ true }
     ensures same_memory { SameMemory lent.old lent.new }
-    ensures decided { Decided t (contents_of lent.old) (contents_of lent.new) (Ok result) }
+    ensures decided { Decided t.now (contents_of lent.old) (contents_of lent.new) (Ok result) }
 {
-    let m = Machine::by_input(t);
+    let m = Machine::by_input(*t);
     let mut out = Links::new();
     let (found, failure) = test(t, &m, &mut out);
     match failure {
@@ -76,11 +84,11 @@ fn examine(t: Transducer, lent: &mut Lent) -> Verdict
 // The useful pairs, whose ways out are written into `out`, and where a test fails, if one does. A function of its own: its search is no longer in memory where a
 // witness is made.
 #[inline(never)]
-fn test(t: Transducer, m: &Machine, out: &mut Links) -> (UsefulPairs, Option<Failure>)
-    requires t_value { accepted_of t ≡ true }
-    requires image_of { ImageOf t false m.now }
-    ensures standing { Standing t result.0 out.new.link out.new.label }
-    ensures tested { Tested t out.new.link out.new.label result.1 }
+fn test(t: &Transducer, m: &Machine, out: &mut Links) -> (UsefulPairs, Option<Failure>)
+    requires t_value { accepted_of t.now ≡ true }
+    requires image_of { ImageOf t.now false m.now }
+    ensures standing { Standing t.now result.0 out.new.link out.new.label }
+    ensures tested { Tested t.now out.new.link out.new.label result.1 }
 {
     let mut search = Search::<PAIRS>::new();
     let found = pairs::ways_out(t, m, &mut search, out);
@@ -92,23 +100,23 @@ fn test(t: Transducer, m: &Machine, out: &mut Links) -> (UsefulPairs, Option<Fai
 // steps is not made.
 #[inline(never)]
 fn split(
-    t: Transducer,
+    t: &Transducer,
     m: &Machine,
     found: UsefulPairs,
     out: &Links,
     failure: Failure,
     lent: &mut Lent,
 ) -> Verdict
-    requires standing { Standing t found out.now.link out.now.label }
-    requires image_of { ImageOf t false m.now }
-    requires differing { Differing t out.now.link out.now.label failure }
+    requires standing { Standing t.now found out.now.link out.now.label }
+    requires image_of { ImageOf t.now false m.now }
+    requires differing { Differing t.now out.now.link out.now.label failure }
     requires full { full_of (contents_of lent.old) ≡ true }
     ensures same_memory { SameMemory lent.old lent.new }
-    ensures decided { Decided t (contents_of lent.old) (contents_of lent.new) (Ok result) }
+    ensures decided { Decided t.now (contents_of lent.old) (contents_of lent.new) (Ok result) }
 {
     let mut steps = [0u32; STEPS];
-    let place = equations::walk(t, m, found, out, failure, &mut steps);
-    let counts = witness::show(t, &steps[place.start..place.end], lent);
+    let place = equations::walk(*t, m, found, out, failure, &mut steps);
+    let counts = witness::show(*t, &steps[place.start..place.end], lent);
     Verdict {
         useful: found.count,
         witness: Some(counts),

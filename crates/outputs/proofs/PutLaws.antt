@@ -65,6 +65,10 @@ appends_codes {written} o l low {before} {part} {p} k room e =
     rw (codes_part o l low ∙ sym (take-take (count_at written l) most_outputs all few) ∙ ap (take (count_at written l)) (sym is))
     (appends_copied before part p k (count_at written l) room (omega (arith, ap length is, length-take-le most_outputs all (omega (arith, length-drop (l * entry + 1) written, o.long)))))
 
+-- a value of a part of a list
+pub part_place : (list : List ℕ) (p n i : ℕ) → i < n → get_or (slice_range list p (p + n)) i 0 ≡ get_or list (p + i) 0
+part_place list p n i h = get_or-take (p + n - p) (drop p list) i 0 (omega arith) ∙ get_or-drop p list i 0
+
 -- ---- comparing
 
 -- the places of an entry

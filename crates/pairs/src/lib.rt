@@ -112,21 +112,21 @@ pub fn useful_pairs(t: Transducer) -> Result<UsefulPairs, Refusal>
 // in the order in which they were found: each after the one to which its link leads.
 #[inline(never)]
 pub fn ways_out(
-    t: Transducer,
+    t: &Transducer,
     m: &Machine,
     found: &mut Search<PAIRS>,
     out: &mut Links,
 ) -> UsefulPairs
-    requires t_value { accepted_of t ≡ true }
-    requires image_of { ImageOf t false m.now }
+    requires t_value { accepted_of t.now ≡ true }
+    requires image_of { ImageOf t.now false m.now }
     requires blank { Blank most_pairs found.old }
-    ensures ways_out { WaysOut t result out.new.link out.new.label }
+    ensures ways_out { WaysOut t.now result out.new.link out.new.label }
     ensures long { (length out.new.link ≡ most_pairs) × (length out.new.label ≡ most_pairs) }
-    ensures discovered { Discovered t out.new.link found.new.order found.new.count }
+    ensures discovered { Discovered t.now out.new.link found.new.order found.new.count }
     ensures count { result.count ≡ found.new.count }
 {
-    let back = Machine::by_input_reversed(t);
-    search_back(t, m, &back, found);
+    let back = Machine::by_input_reversed(*t);
+    search_back(*t, m, &back, found);
     out.follow(found);
     found_pairs(found)
 }
