@@ -36,6 +36,12 @@ appends_held {after = after} {w = w} {r = r} h a =
     let e : r ≡ length w = omega (arith, a.place) in
     record { within = omega arith; is = ap (λ n. take n after) (sym e) ∙ a.front }
 
+-- a list that is just this
+pub held_all : {list w : List ℕ} → list ≡ w → HeldAt list 0 w
+held_all {list} {w} e =
+    let long = ap length e in
+    record { within = omega (arith, long); is = ap (λ (x : List ℕ). take (length w) x) e ∙ take_all (length w) w (omega arith) }
+
 -- the front of what stands at a place
 pub held_front : {list w : List ℕ} {p n : ℕ} → HeldAt list p w → n ≤ length w → take n (drop p list) ≡ take n w
 held_front {list} {w} {p} {n} h low = sym (take-take n (length w) (drop p list) low) ∙ ap (take n) h.is

@@ -85,6 +85,15 @@ module _ {written link label : List ℕ} (lists : Lists written link label) wher
 
 -- ---- gaps
 
+-- a pair that counts has a way, and so has one that is led where it does not count
+pub led_or_counts : {written link label gap : List ℕ} {v : ℕ} → Grounds written link label gap
+    → (v < most_pairs) × (get_or gap v 0 ≡ 0 → Led link label v) → Led link label v
+led_or_counts {link = link} {label = label} {gap = gap} {v = v} g h = go (eqb (get_or gap v 0) 0) refl
+  where
+    go : (b : Bool) → eqb (get_or gap v 0) 0 ≡ b → Led link label v
+    go true e = h.1 (eqb-true (get_or gap v 0) 0 e)
+    go false e = g.ways v h.0 (eqb-false (get_or gap v 0) 0 e)
+
 module _ {written link label : List ℕ} where
   -- where the way ends both sides write equally much
   pub gap_ends : {v : ℕ} → Led link label v → get_or link v 0 ≡ 0 → GapIs written link label v level

@@ -9,6 +9,8 @@ ghost use Rattle.equations.specs.Links.{most_steps};
 ghost use Rattle.equations.specs.Tests.{Standing, Listed, Differing, Tested, Fails};
 
 pub mod testing;
+#[cfg(test)]
+mod tests;
 pub mod way;
 
 use delays::equation::StepTo;

@@ -5,7 +5,8 @@ ghost use Rattle.delays.specs.WaysOut.{level};
 ghost use Rattle.delays.specs.Needs.{Passes, OneEmpty, Equation};
 
 use crate::{At, Failure};
-use delays::equation::{OnWay, StepTo};
+pub use delays::equation::OnWay;
+use delays::equation::StepTo;
 use delays::sides::{Sides, Words};
 use delays::ways::Ways;
 use product::machine::Machine;

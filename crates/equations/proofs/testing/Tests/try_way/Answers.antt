@@ -14,7 +14,7 @@ pub unwrap-next-requires : goal.unwrap-next-requires
 unwrap-next-requires c =
     let m = rw c.self.view_is at c.self.invariant in
     let w = ap (λ (x : TestLists). x.ways) c.self.view_is in
-    let z = c.loop-tested.invariant in
+    let z = c.loop-tested.invariant.along in
     let o = along_on m z (rw w at c.is_level.ensures) (get_or c.loop-tested.tested c.loop-tested.i false) c.loop-tested-test.true in
     there c.next.result c.next.ensures (rw w (λ e. omega (arith, o.next_is, e)))
 
@@ -22,7 +22,7 @@ pub rest-rest-requires-clause-ahead : goal.rest-rest-requires-clause-ahead
 rest-rest-requires-clause-ahead c =
     let m = rw c.self.view_is at c.self.invariant in
     let w = ap (λ (x : TestLists). x.ways) c.self.view_is in
-    let z = c.loop-tested.invariant in
+    let z = c.loop-tested.invariant.along in
     let o = along_on m z (rw w at c.is_level.ensures) (get_or c.loop-tested.tested c.loop-tested.i false) c.loop-tested-test.true in
     rw w (λ e. omega (arith, o.next_is, e))
 
@@ -43,7 +43,7 @@ pub loop-tested-smaller : goal.loop-tested-smaller
 loop-tested-smaller c =
     let m = rw c.self.view_is at c.self.invariant in
     let w = ap (λ (x : TestLists). x.ways) c.self.view_is in
-    let z = c.loop-tested.invariant in
+    let z = c.loop-tested.invariant.along in
     let o = along_on m z (rw w at c.is_level.ensures) (get_or c.loop-tested.tested c.loop-tested.i false) c.loop-tested-test.true in
     let next = rw (c.unwrap-next.ensures, w) at c.next.ensures in
     let to : get_or c.args.self.now.ways.link c.loop-tested.i 0 - 1 ≡ c.unwrap-next.result = omega (arith, next) in
@@ -53,8 +53,12 @@ pub loop-tested-preserved : goal.loop-tested-preserved
 loop-tested-preserved c =
     let m = rw c.self.view_is at c.self.invariant in
     let w = ap (λ (x : TestLists). x.ways) c.self.view_is in
-    let z = c.loop-tested.invariant in
+    let z = c.loop-tested.invariant.along in
     let o = along_on m z (rw w at c.is_level.ensures) (get_or c.loop-tested.tested c.loop-tested.i false) c.loop-tested-test.true in
     let next = rw (c.unwrap-next.ensures, w) at c.next.ensures in
     let to : get_or c.args.self.now.ways.link c.loop-tested.i 0 - 1 ≡ c.unwrap-next.result = omega (arith, next) in
-    along_more m z (rw to at o) (rw to at (rw w at c.rest-rest.ensures.held)) c.in_default.ensures
+    let words = rw w at c.rest-rest.ensures.words in
+    record {
+      along = along_more m z (rw to at o) (rw to at (rw w at c.rest-rest.ensures.held)) c.in_default.ensures;
+      words = rw to at (words c.loop-tested.invariant.words);
+    }
